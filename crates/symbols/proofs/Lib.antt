@@ -1,0 +1,4 @@
+pub mod Tests
+pub mod Rules
+pub mod Families
+pub mod Sums
