@@ -1,0 +1,4 @@
+pub mod Code
+pub mod Search
+pub mod Sets
+pub mod Serviceable
