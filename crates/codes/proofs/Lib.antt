@@ -4,3 +4,11 @@ pub mod Places
 pub mod Wider
 pub mod Decoding
 pub mod Linear
+pub mod Order
+pub mod Step
+pub mod Bit
+pub mod Mask
+pub mod Visited
+pub mod Found
+pub mod Messages
+pub mod Offending

@@ -1,4 +1,6 @@
 pub mod Code
 pub mod Search
 pub mod Sets
+pub mod Steps
+pub mod Offenders
 pub mod Serviceable
