@@ -18,6 +18,9 @@ pub record Code : Type 0 where
   pub k : ℕ
   pub rows : List ℕ
 
+abbrev pub code : Ring → ℕ → ℕ → List ℕ → Code
+code R n k rows = record { ring = R; n = n; k = k; rows = rows }
+
 -- check symbol j of the message u: the sum over i of u_i times code j of row i
 abbrev pub term : Code → List ℕ → ℕ → ℕ → ℕ
 term C u j i = times (C .ring) (getD u i 0) (getD (C .rows) (i * (C .n - C .k) + j) 0)
