@@ -14,7 +14,7 @@ use Rattle.std.proofs.shelf.Lists.{ext-getD}
 use Rattle.std.proofs.shelf.Counted.{length-map-counting, getD-map-counting}
 use Rattle.std.proofs.shelf.Tests.{true≢false, cases-eq, eq-eqb, ne-eqb, eqb-true, eqb-false, cond-true, cond-false, cases-bool, cases-lt}
 use Rattle.std.proofs.shelf.Ways.{tells}
-use Rattle.codes.specs.Code.{distance, Permutation, source, moved, returned}
+use Rattle.codes.specs.Code.{distance, weight, Permutation, source, moved, returned}
 use Rattle.codes.specs.Sets.{Rising}
 
 -- 0 where two symbols agree, else 1
@@ -75,6 +75,24 @@ zero-distance (suc n) v w none p h =
 
 pub zero-same : (n : ℕ) (v w : List ℕ) → length v ≡ n → length w ≡ n → distance n v w ≡ 0 → v ≡ w
 zero-same n v w lv lw none = ext-getD 0 v w (lv ∙ sym lw) (λ p h. zero-distance n v w none p (omega arith))
+
+-- more places, no smaller distance
+pub distance-mono : (a b : ℕ) (v w : List ℕ) → a ≤ b → distance a v w ≤ distance b v w
+distance-mono a zero v w h = ap-le (omega arith)
+  where
+    ap-le : a ≡ 0 → distance a v w ≤ 0
+    ap-le e = rw e (omega arith)
+distance-mono a (suc b) v w h =
+    ⊎-elim
+      (λ e. rw e (omega arith))
+      (λ ne. let ih = distance-mono a b v w (omega arith) in omega (arith, distance-suc b v w))
+      (cases-eq a (suc b))
+
+-- words that agree weigh the same
+pub weight-agree : (n : ℕ) (v w : List ℕ) → ((p : ℕ) → p < n → getD v p 0 ≡ getD w p 0) → weight n v ≡ weight n w
+weight-agree zero v w same = refl
+weight-agree (suc n) v w same =
+    omega (arith, distance-suc n v [], distance-suc n w [], weight-agree n v w (λ p h. same p (omega arith)), ap (λ x. mark x 0) (same n (omega arith)))
 
 -- the places from f on, of d, where two words differ
 abbrev pub differing : ℕ → ℕ → List ℕ → List ℕ → List ℕ

@@ -5,6 +5,7 @@ ghost use mathlib.Core.Path.{_≡_};
 ghost use Prim.Native.Nat.{_+_, _*_, _%_, _^_, _<_};
 ghost use lib.ListN.{length, getD};
 ghost use denote.Ref.{now};
+ghost use Rattle.faults.specs.Refusal.{refusal, refuse};
 ghost use Rattle.lists.specs.Bounded.{table-bounds, shifts-bounds, multiplied-bounds};
 ghost use Rattle.lists.specs.Meaning.{Meaning, Bounds, Fair, reply, table, shifts, multiplied};
 ghost use Rattle.std.specs.Results.{Cases};
@@ -47,7 +48,7 @@ pub struct Table<'a> {
 impl<'a> Table<'a> {
     // Refuses a length outside 1 to 64, bytes that are no whole rows, and more than 512 rows.
     pub fn new(n: u8, part: &'a [u8]) -> Result<Table<'a>, Fault>
-        ensures { λ r. ⌜ Cases r (λ t. (t .n ≡ n) × (now (t .part) ≡ now (part .entry)) × Fair n (length (now (part .entry)))) (λ e. (e ≡ Fault.TableShape) × (Fair n (length (now (part .entry))) → ⊥)) ⌝ }
+        ensures { λ r. ⌜ Cases r (λ t. (t .n ≡ n) × (now (t .part) ≡ now (part .entry)) × Fair n (length (now (part .entry)))) (λ e. (refusal e ≡ refuse 2 0 0) × (Fair n (length (now (part .entry))) → ⊥)) ⌝ }
     {
         if n < 1 || n > WIDEST {
             return Err(Fault::TableShape);

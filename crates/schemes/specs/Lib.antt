@@ -1,0 +1,3 @@
+pub mod Scheme
+pub mod Trial
+pub mod Told
