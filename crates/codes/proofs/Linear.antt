@@ -221,14 +221,14 @@ module _ (C : Code) (t m : ℕ) (target : ℕ → ℕ → ℕ) (rules : RingRule
   pub unit-symbols : (i : ℕ) → Symbols (C .ring .q) (C .k) (unit (C .k) i)
   unit-symbols i = (unit-long C rules fits i, unit-below i)
 
-  -- t errors can be corrected only in more than 2t places
-  room : Tested C t m target → t ≤ C .n
-  room tested =
+  -- t errors can be corrected only in at least t places
+  pub room : ((u : List ℕ) → Symbols (C .ring .q) (C .k) u → weight (C .n) (codeword C u) ≤ 2 * t → (p : ℕ) → p < C .k → getD u p 0 ≡ 0) → t ≤ C .n
+  room heavy =
       ⊎-elim
         (λ l. omega arith)
         (λ l. absurd (
           let one = unit-one C rules fits 0 some in
-          let none = tested .heavy (unit (C .k) 0) (unit-symbols 0) (omega (arith, distance-le (C .n) (codeword C (unit (C .k) 0)) [])) 0 some in
+          let none = heavy (unit (C .k) 0) (unit-symbols 0) (omega (arith, distance-le (C .n) (codeword C (unit (C .k) 0)) [])) 0 some in
           omega arith))
         (cases-lt t (C .n))
 
@@ -242,7 +242,7 @@ module _ (C : Code) (t m : ℕ) (target : ℕ → ℕ → ℕ) (rules : RingRule
         (cases-lt (2 * t) (distance (C .n) c d));
     keeps = λ i h c. keeps-all C rules fits (target i) (permutes i h) (λ j l. tested .keeps-units i j h l) c;
     clears = λ places few set.
-      let wide = widen (C .n) 0 (C .n) t places (omega arith) set few (room tested) in
+      let wide = widen (C .n) 0 (C .n) t places (omega arith) set few (room (tested .heavy)) in
       let (i, h, clear) = tested .clears-sets (wide .wide) (wide .long) (wide .rises) in
       (i, h, wide .holds (λ p. C .k ≤ target i p) clear);
   }
@@ -280,7 +280,7 @@ module _ (C : Code) (t m : ℕ) (target : ℕ → ℕ → ℕ) (rules : RingRule
     heavy = λ u su light p h.
       ⊎-elim
         (λ z. z)
-        (λ nz. absurd (
+        (λ (nz : getD u p 0 ≡ 0 → ⊥). absurd (
           let zs = map nought (counting 0 (C .k)) in
           let hz : Codeword C (codeword C zs) = (zs, (zeros-long, λ r l. rw (zeros-at r l) (omega (arith, rules .low))), refl) in
           let hu : Codeword C (codeword C u) = (u, su, refl) in

@@ -1,1 +1,3 @@
 mod Bounds
+mod Clearing
+mod Trying

@@ -42,3 +42,26 @@ draftRefusal n k t q =
     (cond (leb (q ^ k) 65536) None (Some (refuse 5 0 0)))
     (Some (refuse 4 0 0)))
     (Some (refuse 3 0 0))
+
+-- What a live scheme keeps of its trial: the numbers of its draft, and the number m of permutations.
+pub record Scheme : Type 0 where
+  pub n : ℕ
+  pub k : ℕ
+  pub t : ℕ
+  pub q : ℕ
+  pub m : ℕ
+
+-- The scheme of a draft and what its trial was handed.
+abbrev pub scheme : Plan → Handed → Scheme
+scheme D h = record { n = D .n; k = D .k; t = D .t; q = D .q; m = h .list .count }
+
+-- A tally.
+pub record Counts : Type 0 where
+  pub blocks : ℕ
+  pub clean : ℕ
+  pub mended : ℕ
+  pub lost : ℕ
+  pub symbols : ℕ
+
+abbrev pub none : Counts
+none = record { blocks = 0; clean = 0; mended = 0; lost = 0; symbols = 0 }

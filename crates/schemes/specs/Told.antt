@@ -8,7 +8,11 @@ use Rattle.std.specs.declared.result.Result.the-variants.{Ok, Err}
 use Rattle.faults.specs.declared.Fault.{Fault}
 use Rattle.faults.specs.Refusal.{Refusal, refusal}
 use Rattle.schemes.specs.declared.scheme.Draft.{Draft}
-use Rattle.schemes.specs.Scheme.{Plan, plan}
+use Rattle.schemes.specs.declared.scheme.Live.{Live}
+use Rattle.schemes.specs.declared.scheme.Rejected.{Rejected}
+use Rattle.schemes.specs.declared.scheme.Tally.{Tally}
+use Rattle.schemes.specs.Scheme.{Plan, plan, Handed, Scheme, scheme, Counts, none}
+use Rattle.schemes.specs.Trial.{verdict}
 
 -- A call answers by a refusal exactly when there is one, and else by a value that has the property P.
 abbrev pub Answers : {A : Type 0} → Option Refusal → Result A Fault → (A → Type 0) → Type 0
@@ -18,3 +22,18 @@ Answers o (Err f) P = o ≡ Some (refusal f)
 -- what a draft holds
 abbrev pub planned : Draft → Plan
 planned d = plan (d .n) (d .k) (d .t) (d .q)
+
+-- what a live scheme keeps, and its tally
+abbrev pub kept : Live → Scheme
+kept s = record { n = s .draft .n; k = s .draft .k; t = s .draft .t; q = s .draft .q; m = s .m }
+
+abbrev pub counts : Tally → Counts
+counts t = record { blocks = t .blocks; clean = t .clean; mended = t .mended; lost = t .lost; symbols = t .symbols }
+
+abbrev pub tallied : Live → Counts
+tallied s = counts (s .tally)
+
+-- The trial of a draft: a live scheme of its numbers with an empty tally, or the same draft with the first refusal.
+abbrev pub Tried : Plan → Handed → Result Live Rejected → Type 0
+Tried D h (Ok live) = (verdict D h ≡ None) × (kept live ≡ scheme D h) × (tallied live ≡ none)
+Tried D h (Err x) = (verdict D h ≡ Some (refusal (x .fault))) × (planned (x .draft) ≡ D)

@@ -61,3 +61,7 @@ verdict D h = orOther (unfit D h) (fails D h)
 -- The code and the list serve for the draft's t errors.
 abbrev pub Serves : Plan → Handed → Type 0
 Serves D h = Serviceable (codeOf D h) (D .t) (h .list .count) (h .list .target)
+
+-- P holds exactly when Q does.
+abbrev pub Exactly : Type 0 → Type 0 → Type 0
+Exactly P Q = (P → Q) × (Q → P)
