@@ -1,3 +1,2 @@
 mod Bounds
 mod Clearing
-mod Trying

@@ -1,3 +1,1 @@
-pub mod Scheme
-pub mod Trial
 pub mod Told

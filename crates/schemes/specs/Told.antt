@@ -11,8 +11,8 @@ use Rattle.schemes.specs.declared.scheme.Draft.{Draft}
 use Rattle.schemes.specs.declared.scheme.Live.{Live}
 use Rattle.schemes.specs.declared.scheme.Rejected.{Rejected}
 use Rattle.schemes.specs.declared.scheme.Tally.{Tally}
-use Rattle.schemes.specs.Scheme.{Plan, plan, Handed, Scheme, scheme, Counts, none}
-use Rattle.schemes.specs.Trial.{verdict}
+use Rattle.promises.specs.Scheme.{Plan, plan, Handed, Scheme, scheme, Counts, none}
+use Rattle.promises.specs.Trial.{verdict}
 
 -- A call answers by a refusal exactly when there is one, and else by a value that has the property P.
 abbrev pub Answers : {A : Type 0} → Option Refusal → Result A Fault → (A → Type 0) → Type 0

@@ -2,7 +2,7 @@
 ghost use mathlib.Core.Path.{_≡_};
 ghost use Prim.Native.Nat.{_+_, _-_, _*_, _^_, _<_, _≤_};
 ghost use Rattle.std.specs.Options.{Cases};
-ghost use Rattle.schemes.specs.Scheme.{plan, draftRefusal};
+ghost use Rattle.promises.specs.Scheme.{plan, draftRefusal};
 ghost use Rattle.schemes.specs.Told.{Answers, planned};
 use crate::scheme::Draft;
 use faults::Fault;

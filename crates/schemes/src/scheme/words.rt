@@ -5,7 +5,7 @@ ghost use lib.Dec.{leb};
 ghost use lib.ListN.{length, getD, take};
 ghost use Rattle.std.specs.Orderings.{Decides};
 ghost use Rattle.codes.specs.Code.{code, check, codeword, Codeword, Symbols, distance, weight};
-ghost use Rattle.schemes.specs.Trial.{excess};
+ghost use Rattle.promises.specs.Trial.{excess};
 use symbols::Kind;
 
 // The index of the first symbol of q or more.

@@ -2,8 +2,8 @@ use mathlib.Core.Path.{_≡_, sym, ap, _∙_}
 use Prim.Native.Nat.{ℕ, _<_, _≤_}
 use native.Mathlib.Omega.{arith}
 use Rattle.std.specs.Options.{mapped}
-use Rattle.schemes.specs.Scheme.{Plan, plan, Handed, handing}
-use Rattle.schemes.proofs.Trying.{fit-size, fit-long, fit-permutes, enough-places}
+use Rattle.promises.specs.Scheme.{Plan, plan, Handed, handing}
+use Rattle.promises.proofs.Trying.{fit-size, fit-long, fit-permutes, enough-places}
 use Rattle.schemes.proofs.scheme.Draft.check_code.Needs as need
 
 pub unkept-requires : need.unkept-requires

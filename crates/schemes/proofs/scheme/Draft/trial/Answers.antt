@@ -3,10 +3,10 @@ use mathlib.Core.Bool.{true, false}
 use Prim.Native.Nat.{ℕ}
 use native.Mathlib.Omega.{arith}
 use Rattle.std.proofs.shelf.Tests.{false≢true}
-use Rattle.schemes.specs.Scheme.{Plan, plan, Handed, handing, Scheme}
-use Rattle.schemes.specs.Trial.{unfit, fails}
+use Rattle.promises.specs.Scheme.{Plan, plan, Handed, handing, Scheme}
+use Rattle.promises.specs.Trial.{unfit, fails}
 use Rattle.codes.proofs.Found.{none-some}
-use Rattle.schemes.proofs.Trying.{second-none, both-none, passes-serves, serves-passes}
+use Rattle.promises.proofs.Trying.{second-none, both-none, passes-serves, serves-passes}
 use Rattle.schemes.proofs.scheme.Draft.trial.Needs as need
 
 with-count : (D : Plan) (a b : ℕ) → a ≡ b → _≡_ {A = Scheme} (record { n = D .n; k = D .k; t = D .t; q = D .q; m = a }) (record { n = D .n; k = D .k; t = D .t; q = D .q; m = b })

@@ -13,7 +13,7 @@ use Rattle.codes.specs.Search.{least}
 use Rattle.codes.specs.Sets.{bits, uncleared}
 use Rattle.codes.specs.Offenders.{badEntry, light, unkept}
 use Rattle.codes.specs.Serviceable.{Serviceable}
-use Rattle.schemes.specs.Scheme.{Plan, Handed, codeOf}
+use Rattle.promises.specs.Scheme.{Plan, Handed, codeOf}
 
 -- 6: the kind has the draft's q, and the rows are k × (n - k) codes, or not.
 abbrev pub mismatch : Plan → Handed → Option Refusal

@@ -18,8 +18,8 @@ use Rattle.codes.specs.Sets.{bits}
 use Rattle.codes.proofs.Found.{none-some}
 use Rattle.codes.proofs.Linear.{Tested, serviceable, tested-from, room}
 use Rattle.codes.proofs.Offending.{all-permute, heavy-from, light-none, keeps-from, unkept-none, cleared-from, cleared-none}
-use Rattle.schemes.specs.Scheme.{Plan, Handed, codeOf}
-use Rattle.schemes.specs.Trial.{mismatch, badRow, badList, noPermutation, lightMessage, notKept, notCleared, unfit, fails, verdict, Serves}
+use Rattle.promises.specs.Scheme.{Plan, Handed, codeOf}
+use Rattle.promises.specs.Trial.{mismatch, badRow, badList, noPermutation, lightMessage, notKept, notCleared, unfit, fails, verdict, Serves}
 
 pub mapped-none : {A B : Type 0} (f : A → B) (o : Option A) → mapped f o ≡ None → o ≡ None
 mapped-none f None e = refl

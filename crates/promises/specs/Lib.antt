@@ -1,0 +1,5 @@
+pub mod Scheme
+pub mod Trial
+pub mod Calls
+pub mod Promise
+pub mod Settled
