@@ -1,5 +1,5 @@
 -- Distances and permutations of places.
-use mathlib.Core.Path.{_≡_, refl, sym, ap, subst, _∙_}
+use mathlib.Core.Path.{_≡_, refl, sym, ap, ap₂, subst, _∙_}
 use mathlib.Core.Logic.{_⊎_, inl, inr, ⊎-elim}
 use mathlib.Core.List.{List, [], _∷_, map}
 use mathlib.Core.Bool.{Bool, true, false, cond}
@@ -214,3 +214,50 @@ module _ (n : ℕ) (σ : ℕ → ℕ) (perm : Permutation n σ) where
       ext-getD 0 w _ (long ∙ sym (length-map-counting _ 0 n))
       (λ s h. let from = onto n σ perm s (omega arith) in
         rw (← from .2) (at (from .0) (from .1) ∙ sym (moved-at v (from .0) (from .1))))
+
+-- Sums over the places below n, and that a permutation of the places does not change them.
+abbrev sum : ℕ → (ℕ → ℕ) → ℕ
+sum zero f = 0
+sum (suc p) f = f p + sum p f
+
+sum-same : (n : ℕ) (f g : ℕ → ℕ) → ((p : ℕ) → p < n → f p ≡ g p) → sum n f ≡ sum n g
+sum-same zero f g same = refl
+sum-same (suc n) f g same = omega (arith, same n (omega arith), sum-same n f g (λ p h. same p (omega arith)))
+
+-- terms that differ at one place only
+sum-other : (n r : ℕ) (f g : ℕ → ℕ) → r < n → ((p : ℕ) → p < n → (p ≡ r → ⊥) → f p ≡ g p) → sum n f + g r ≡ sum n g + f r
+sum-other zero r f g h same = absurd (not-suc-le-zero h)
+sum-other (suc n) r f g h same =
+    ⊎-elim
+      (λ e. let rest = sum-same n f g (λ p l. same p (omega arith) (λ q. omega arith)) in omega (arith, ap f e, ap g e))
+      (λ ne. omega (arith, same n (omega arith) (λ q. ne (sym q)), sum-other n r f g (omega arith) (λ p l. same p (omega arith))))
+      (cases-eq r n)
+
+sum-without : (n : ℕ) (σ f : ℕ → ℕ) → Permutation (suc n) σ → sum n (λ p. f (σ p)) + f (σ n) ≡ sum n (λ p. f (without n σ p)) + f n
+sum-without n σ f perm =
+    ⊎-elim
+      (λ e. let rest = sum-same n (λ p. f (σ p)) (λ p. f (without n σ p)) (λ p l. ap f (sym (off-top n σ p (λ q. let z = perm .1 p n (omega arith) (omega arith) (q ∙ sym e) in omega arith)))) in omega (arith, ap f e))
+      (λ ne.
+        let from = onto (suc n) σ perm n (omega arith) in
+        let r = from .0 in
+        let low : r < n = ⊎-elim (λ l. l) (λ l. absurd (ne (let z : r ≡ n = omega arith in ap σ (sym z) ∙ from .2))) (cases-lt r n) in
+        let other = sum-other n r (λ p. f (σ p)) (λ p. f (without n σ p)) low (λ p l d. ap f (sym (off-top n σ p (λ q. d (perm .1 p r (omega arith) (omega arith) (q ∙ sym (from .2))))))) in
+        omega (arith, ap f (at-top n σ r (from .2)), ap f (from .2)))
+      (cases-eq (σ n) n)
+
+sum-permuted : (n : ℕ) (σ f : ℕ → ℕ) → Permutation n σ → sum n (λ p. f (σ p)) ≡ sum n f
+sum-permuted zero σ f perm = refl
+sum-permuted (suc n) σ f perm = omega (arith, sum-without n σ f perm, sum-permuted n (without n σ) f (without-permutes n σ perm))
+
+distance-sum : (n : ℕ) (v w : List ℕ) → distance n v w ≡ sum n (λ p. mark (getD v p 0) (getD w p 0))
+distance-sum zero v w = refl
+distance-sum (suc n) v w = omega (arith, distance-suc n v w, distance-sum n v w)
+
+-- a word brought back is as far from v as it was from v moved
+pub distance-returned : (n : ℕ) (σ : ℕ → ℕ) → Permutation n σ → (v w : List ℕ) → distance n v (returned n σ w) ≡ distance n (moved n σ v) w
+distance-returned n σ perm v w =
+    distance-sum n v (returned n σ w)
+    ∙ sum-same n _ (λ p. mark (getD (moved n σ v) (σ p) 0) (getD w (σ p) 0))
+      (λ p h. ap₂ mark (sym (moved-at n σ perm v p h)) (getD-map-counting (λ r. getD w (σ r) 0) 0 n p p 0 h (omega arith)))
+    ∙ sum-permuted n σ (λ s. mark (getD (moved n σ v) s 0) (getD w s 0)) perm
+    ∙ sym (distance-sum n (moved n σ v) w)

@@ -3,6 +3,7 @@ ghost use mathlib.Core.Path.{_≡_};
 ghost use Prim.Native.Nat.{_+_, _*_, _^_, _<_, _≤_};
 use faults::Fault;
 
+mod attempting;
 mod drafting;
 mod marking;
 mod permuting;
