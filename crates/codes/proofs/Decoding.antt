@@ -33,19 +33,19 @@ codeword-long C fits c (u, (long, below), e) = ap length e ∙ length-codeword C
 module _ (C : Code) (t m : ℕ) (target : ℕ → ℕ → ℕ) (fits : C .k ≤ C .n) (permutes : (i : ℕ) → i < m → Permutation (C .n) (target i)) (serves : Serviceable C t m target) where
   -- words that differ only at places that σ clears agree on the information places once moved
   pub agree-moved : (σ : ℕ → ℕ) → Permutation (C .n) σ → (v c : List ℕ) → Clears (C .k) σ (differing 0 (C .n) v c)
-    → take (C .k) (moved (C .n) σ v) ≡ take (C .k) (moved (C .n) σ c)
+      → take (C .k) (moved (C .n) σ v) ≡ take (C .k) (moved (C .n) σ c)
   agree-moved σ perm v c clear =
       let long : (w : List ℕ) → length (take (C .k) (moved (C .n) σ w)) ≡ C .k =
-        λ w. length-take-le (C .k) (moved (C .n) σ w) (rw length-map-counting fits) in
+      λ w. length-take-le (C .k) (moved (C .n) σ w) (rw length-map-counting fits) in
       ext-getD 0 _ _ (long v ∙ sym (long c))
       (λ s h.
-        let l : s < C .k = rw (long v) at h in
-        let from = onto (C .n) σ perm s (omega arith) in
-        let p = from .0 in
-        getD-take (C .k) (moved (C .n) σ v) s 0 l
-        ∙ rw (← from .2)
-          (moved-at (C .n) σ perm v p (from .1) ∙ agree (λ r. C .k ≤ σ r) 0 (C .n) v c clear p (omega arith) (omega arith) (λ k≤. omega arith) ∙ sym (moved-at (C .n) σ perm c p (from .1)))
-        ∙ sym (getD-take (C .k) (moved (C .n) σ c) s 0 l))
+      let l : s < C .k = rw (long v) at h in
+      let from = onto (C .n) σ perm s (omega arith) in
+      let p = from .0 in
+      getD-take (C .k) (moved (C .n) σ v) s 0 l
+      ∙ rw (← from .2)
+      (moved-at (C .n) σ perm v p (from .1) ∙ agree (λ r. C .k ≤ σ r) 0 (C .n) v c clear p (omega arith) (omega arith) (λ k≤. omega arith) ∙ sym (moved-at (C .n) σ perm c p (from .1)))
+      ∙ sym (getD-take (C .k) (moved (C .n) σ c) s 0 l))
 
   -- the attempt by a permutation that clears the differing places gives the codeword
   pub candidate-is : (i : ℕ) → i < m → (v c : List ℕ) → Codeword C c → Clears (C .k) (target i) (differing 0 (C .n) v c) → candidate C (target i) v ≡ c
@@ -60,17 +60,18 @@ module _ (C : Code) (t m : ℕ) (target : ℕ → ℕ → ℕ) (fits : C .k ≤ 
   pub nearest : (v c d : List ℕ) → Near C t v c → Near C t v d → c ≡ d
   nearest v c d (hc, nc) (hd, nd) =
       ⊎-elim
-        (zero-same (C .n) c d (codeword-long C fits c hc) (codeword-long C fits d hd))
-        (λ ne. absurd (
-          let far = serves .apart c d hc hd (λ e. ne (ap (λ x. distance (C .n) c x) (sym e) ∙ distance-zero (C .n) c c (λ p h. refl))) in
-          omega (arith, triangle (C .n) c v d, distance-sym (C .n) c v)))
-        (cases-eq (distance (C .n) c d) 0)
+      (zero-same (C .n) c d (codeword-long C fits c hc) (codeword-long C fits d hd))
+      (λ ne. absurd (
+      let far = serves .apart c d hc hd (λ e. ne (ap (λ x. distance (C .n) c x) (sym e) ∙ distance-zero (C .n) c c (λ p h. refl))) in
+      omega (arith, triangle (C .n) c v d, distance-sym (C .n) c v)))
+      (cases-eq (distance (C .n) c d) 0)
 
   pub decodes : Decodes C t m target
-  decodes v block =
-      ( (λ (i, h, s). (candidate C (target i) v, (s .1, s .2)))
-      , (λ (c, near).
-          let (i, h, clear) = serves .clears (differing 0 (C .n) v c) (omega (arith, length-differing (C .n) v c, near .1)) (differing-rising (C .n) 0 (C .n) v c (omega arith)) in
-          let e = candidate-is i h v c (near .0) clear in
-          (i, h, (permutes i h, subst (Codeword C) (sym e) (near .0), subst (λ w. distance (C .n) v w ≤ t) (sym e) (near .1))))
-      , (λ i c h s near. nearest v (candidate C (target i) v) c (s .1, s .2) near))
+  decodes v block = (
+    (λ (i, h, s). (candidate C (target i) v, (s .1, s .2))),
+    (λ (c, near).
+        let (i, h, clear) = serves .clears (differing 0 (C .n) v c) (omega (arith, length-differing (C .n) v c, near .1)) (differing-rising (C .n) 0 (C .n) v c (omega arith)) in
+        let e = candidate-is i h v c (near .0) clear in
+        (i, h, (permutes i h, subst (Codeword C) (sym e) (near .0), subst (λ w. distance (C .n) v w ≤ t) (sym e) (near .1)))),
+    (λ i c h s near. nearest v (candidate C (target i) v) c (s .1, s .2) near),
+  )

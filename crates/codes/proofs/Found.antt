@@ -26,20 +26,20 @@ module _ (test : ℕ → Bool) where
   none-least a zero e y l h = absurd (omega arith)
   none-least a (suc d) e y l h =
       ⊎-elim
-        (λ t. absurd (none-some a (sym e ∙ cond-true (test a) _ _ t)))
-        (λ f. ⊎-elim
-          (λ q. ap test q ∙ f)
-          (λ ne. none-least (suc a) d (sym (cond-false (test a) _ _ f) ∙ e) y (omega arith) (omega arith))
-          (cases-eq y a))
-        (cases-bool (test a))
+      (λ t. absurd (none-some a (sym e ∙ cond-true (test a) _ _ t)))
+      (λ f. ⊎-elim
+      (λ q. ap test q ∙ f)
+      (λ ne. none-least (suc a) d (sym (cond-false (test a) _ _ f) ∙ e) y (omega arith) (omega arith))
+      (cases-eq y a))
+      (cases-bool (test a))
 
   pub least-some : (a d x : ℕ) → a ≤ x → x < a + d → test x ≡ true → ((y : ℕ) → a ≤ y → y < x → test y ≡ false) → least test a d ≡ Some x
   least-some a zero x l h t none = absurd (omega arith)
   least-some a (suc d) x l h t none =
       ⊎-elim
-        (λ q. cond-true (test a) _ _ (ap test q ∙ t) ∙ ap Some q)
-        (λ ne. cond-false (test a) _ _ (none a (omega arith) (omega arith)) ∙ least-some (suc a) d x (omega arith) (omega arith) t (λ y b c. none y (omega arith) c))
-        (cases-eq a x)
+      (λ q. cond-true (test a) _ _ (ap test q ∙ t) ∙ ap Some q)
+      (λ ne. cond-false (test a) _ _ (none a (omega arith) (omega arith)) ∙ least-some (suc a) d x (omega arith) (omega arith) t (λ y b c. none y (omega arith) c))
+      (cases-eq a x)
 
 module _ (f : ℕ → Option ℕ) where
   pub leastWith-none : (a d : ℕ) → ((y : ℕ) → a ≤ y → y < a + d → f y ≡ None) → leastWith f a d ≡ None
@@ -56,19 +56,19 @@ module _ (f : ℕ → Option ℕ) where
       at (Some j) q later = absurd (none-some (a, j) (sym e ∙ ap (λ o. orOther (mapped (λ j. (a, j)) o) (leastWith f (suc a) d)) q))
       at None q later =
           ⊎-elim
-            (λ s. ap f s ∙ q)
-            (later (sym (ap (λ o. orOther (mapped (λ j. (a, j)) o) (leastWith f (suc a) d)) q) ∙ e))
-            (cases-eq y a)
+          (λ s. ap f s ∙ q)
+          (later (sym (ap (λ o. orOther (mapped (λ j. (a, j)) o) (leastWith f (suc a) d)) q) ∙ e))
+          (cases-eq y a)
 
   pub leastWith-some : (a d x j : ℕ) → a ≤ x → x < a + d → f x ≡ Some j → ((y : ℕ) → a ≤ y → y < x → f y ≡ None) → leastWith f a d ≡ Some (x, j)
   leastWith-some a zero x j l h t none = absurd (omega arith)
   leastWith-some a (suc d) x j l h t none =
       ⊎-elim
-        (λ q. ap (λ o. orOther (mapped (λ j. (a, j)) o) (leastWith f (suc a) d)) (ap f q ∙ t) ∙ ap (λ y. Some (y, j)) q)
-        (λ ne.
-          ap (λ o. orOther (mapped (λ j. (a, j)) o) (leastWith f (suc a) d)) (none a (omega arith) (omega arith))
-          ∙ leastWith-some (suc a) d x j (omega arith) (omega arith) t (λ y b c. none y (omega arith) c))
-        (cases-eq a x)
+      (λ q. ap (λ o. orOther (mapped (λ j. (a, j)) o) (leastWith f (suc a) d)) (ap f q ∙ t) ∙ ap (λ y. Some (y, j)) q)
+      (λ ne.
+      ap (λ o. orOther (mapped (λ j. (a, j)) o) (leastWith f (suc a) d)) (none a (omega arith) (omega arith))
+      ∙ leastWith-some (suc a) d x j (omega arith) (omega arith) t (λ y b c. none y (omega arith) c))
+      (cases-eq a x)
 
 -- two sets of one size are equal, or one comes before the other
 order : (xs ys : List ℕ) → length xs ≡ length ys → Before xs ys ⊎ (Before ys xs ⊎ (xs ≡ ys))
@@ -77,12 +77,12 @@ order [] (y ∷ ys) e = absurd (omega arith)
 order (x ∷ xs) [] e = absurd (omega arith)
 order (x ∷ xs) (y ∷ ys) e =
     ⊎-elim
-      (λ q. ⊎-elim
-        (λ b. inl (inr (q, b)))
-        (⊎-elim (λ b. inr (inl (inr (sym q, b)))) (λ s. inr (inr (cc))))
-        (order xs ys (omega arith)))
-      (λ ne. ⊎-elim (λ l. inl (inl l)) (λ l. inr (inl (inl (omega arith)))) (cases-lt x y))
-      (cases-eq x y)
+    (λ q. ⊎-elim
+    (λ b. inl (inr (q, b)))
+    (⊎-elim (λ b. inr (inl (inr (sym q, b)))) (λ s. inr (inr (cc))))
+    (order xs ys (omega arith)))
+    (λ ne. ⊎-elim (λ l. inl (inl l)) (λ l. inr (inl (inl (omega arith)))) (cases-lt x y))
+    (cases-eq x y)
 
 -- a set that fails first is the only one
 pub only-first : (test : List ℕ → Bool) (n f t : ℕ) (r s : Option (List ℕ)) → FirstFailing test n f t r → FirstFailing test n f t s → r ≡ s
@@ -91,6 +91,6 @@ only-first test n f t None (Some ys) a b = absurd (true≢false (sym (a ys (b .0
 only-first test n f t (Some xs) None a b = absurd (true≢false (sym (b xs (a .0) (a .1)) ∙ a .2))
 only-first test n f t (Some xs) (Some ys) a b =
     ⊎-elim
-      (λ l. absurd (true≢false (sym (b .3 xs (a .0) (a .1) l) ∙ a .2)))
-      (⊎-elim (λ l. absurd (true≢false (sym (a .3 ys (b .0) (b .1) l) ∙ b .2))) (ap Some))
-      (order xs ys (a .0 ∙ sym (b .0)))
+    (λ l. absurd (true≢false (sym (b .3 xs (a .0) (a .1) l) ∙ a .2)))
+    (⊎-elim (λ l. absurd (true≢false (sym (a .3 ys (b .0) (b .1) l) ∙ b .2))) (ap Some))
+    (order xs ys (a .0 ∙ sym (b .0)))

@@ -66,12 +66,12 @@ pub zero-distance : (n : ℕ) (v w : List ℕ) → distance n v w ≡ 0 → (p :
 zero-distance zero v w none p h = absurd (not-suc-le-zero h)
 zero-distance (suc n) v w none p h =
     ⊎-elim
-      (λ e. ⊎-elim
-        (λ l. zero-distance n v w (omega (arith, distance-same n v w e)) p l)
-        (λ g. let q : p ≡ n = omega arith in rw q e)
-        (cases-lt p n))
-      (λ ne. absurd (omega (arith, distance-other n v w ne)))
-      (cases-eq (getD v n 0) (getD w n 0))
+    (λ e. ⊎-elim
+    (λ l. zero-distance n v w (omega (arith, distance-same n v w e)) p l)
+    (λ g. let q : p ≡ n = omega arith in rw q e)
+    (cases-lt p n))
+    (λ ne. absurd (omega (arith, distance-other n v w ne)))
+    (cases-eq (getD v n 0) (getD w n 0))
 
 pub zero-same : (n : ℕ) (v w : List ℕ) → length v ≡ n → length w ≡ n → distance n v w ≡ 0 → v ≡ w
 zero-same n v w lv lw none = ext-getD 0 v w (lv ∙ sym lw) (λ p h. zero-distance n v w none p (omega arith))
@@ -84,9 +84,9 @@ distance-mono a zero v w h = ap-le (omega arith)
     ap-le e = rw e (omega arith)
 distance-mono a (suc b) v w h =
     ⊎-elim
-      (λ e. rw e (omega arith))
-      (λ ne. let ih = distance-mono a b v w (omega arith) in omega (arith, distance-suc b v w))
-      (cases-eq a (suc b))
+    (λ e. rw e (omega arith))
+    (λ ne. let ih = distance-mono a b v w (omega arith) in omega (arith, distance-suc b v w))
+    (cases-eq a (suc b))
 
 -- words that agree weigh the same
 pub weight-agree : (n : ℕ) (v w : List ℕ) → ((p : ℕ) → p < n → getD v p 0 ≡ getD w p 0) → weight n v ≡ weight n w
@@ -132,19 +132,19 @@ agree P f zero v w all p l h no-P = absurd (omega arith)
 agree P f (suc d) v w all p l h no-P =
     let parts = all-of-cond P (eqb (getD v f 0) (getD w f 0)) f (differing (suc f) d v w) all in
     ⊎-elim
-      (λ e. ⊎-elim (λ t. rw e (eqb-true _ _ t)) (λ x. absurd (no-P (rw e (parts .1 x)))) (cases-bool (eqb (getD v f 0) (getD w f 0))))
-      (λ ne. agree P (suc f) d v w (parts .0) p (omega arith) (omega arith) no-P)
-      (cases-eq p f)
+    (λ e. ⊎-elim (λ t. rw e (eqb-true _ _ t)) (λ x. absurd (no-P (rw e (parts .1 x)))) (cases-bool (eqb (getD v f 0) (getD w f 0))))
+    (λ ne. agree P (suc f) d v w (parts .0) p (omega arith) (omega arith) no-P)
+    (cases-eq p f)
 
 -- where σ has different values below n, the source of σ p is p
 pub source-of : (n : ℕ) (σ : ℕ → ℕ) → ((p r : ℕ) → p < n → r < n → σ p ≡ σ r → p ≡ r) → (p : ℕ) → p < n → source n σ (σ p) ≡ p
 source-of zero σ inj p h = absurd (not-suc-le-zero h)
 source-of (suc n) σ inj p h =
     ⊎-elim
-      (λ e. cond-true (eqb (σ n) (σ p)) n _ (eq-eqb (σ n) (σ p) (ap σ (sym e))) ∙ sym e)
-      (λ ne. cond-false (eqb (σ n) (σ p)) n _ (ne-eqb (σ n) (σ p) (λ e. ne (sym (inj n p (omega arith) h e))))
-        ∙ source-of n σ (λ a b x y e. inj a b (omega arith) (omega arith) e) p (omega arith))
-      (cases-eq p n)
+    (λ e. cond-true (eqb (σ n) (σ p)) n _ (eq-eqb (σ n) (σ p) (ap σ (sym e))) ∙ sym e)
+    (λ ne. cond-false (eqb (σ n) (σ p)) n _ (ne-eqb (σ n) (σ p) (λ e. ne (sym (inj n p (omega arith) h e))))
+    ∙ source-of n σ (λ a b x y e. inj a b (omega arith) (omega arith) e) p (omega arith))
+    (cases-eq p n)
 
 -- σ with its value n, if it has it below n, replaced by σ n
 abbrev without : ℕ → (ℕ → ℕ) → ℕ → ℕ
@@ -162,22 +162,23 @@ without-permutes n σ perm = (below, apart)
     below : (p : ℕ) → p < n → without n σ p < n
     below p l =
         ⊎-elim
-          (λ e. let d : σ n ≡ n → ⊥ = λ q. (let x : p ≡ n = perm .1 p n (omega arith) (omega arith) (e ∙ sym q) in omega arith) in
-            omega (arith, at-top n σ p e, perm .0 n (omega arith)))
-          (λ ne. omega (arith, off-top n σ p ne, perm .0 p (omega arith)))
-          (cases-eq (σ p) n)
+        (λ e. let d : σ n ≡ n → ⊥ = λ q. (let x : p ≡ n = perm .1 p n (omega arith) (omega arith) (e ∙ sym q) in omega arith) in
+        omega (arith, at-top n σ p e, perm .0 n (omega arith)))
+        (λ ne. omega (arith, off-top n σ p ne, perm .0 p (omega arith)))
+        (cases-eq (σ p) n)
+
     apart : (p r : ℕ) → p < n → r < n → without n σ p ≡ without n σ r → p ≡ r
     apart p r l m e =
         ⊎-elim
-          (λ x. ⊎-elim
-            (λ y. perm .1 p r (omega arith) (omega arith) (x ∙ sym y))
-            (λ y. let z : n ≡ r = perm .1 n r (omega arith) (omega arith) (sym (at-top n σ p x) ∙ e ∙ off-top n σ r y) in omega arith)
-            (cases-eq (σ r) n))
-          (λ x. ⊎-elim
-            (λ y. let z : p ≡ n = perm .1 p n (omega arith) (omega arith) (sym (off-top n σ p x) ∙ e ∙ at-top n σ r y) in omega arith)
-            (λ y. perm .1 p r (omega arith) (omega arith) (sym (off-top n σ p x) ∙ e ∙ off-top n σ r y))
-            (cases-eq (σ r) n))
-          (cases-eq (σ p) n)
+        (λ x. ⊎-elim
+        (λ y. perm .1 p r (omega arith) (omega arith) (x ∙ sym y))
+        (λ y. let z : n ≡ r = perm .1 n r (omega arith) (omega arith) (sym (at-top n σ p x) ∙ e ∙ off-top n σ r y) in omega arith)
+        (cases-eq (σ r) n))
+        (λ x. ⊎-elim
+        (λ y. let z : p ≡ n = perm .1 p n (omega arith) (omega arith) (sym (off-top n σ p x) ∙ e ∙ at-top n σ r y) in omega arith)
+        (λ y. perm .1 p r (omega arith) (omega arith) (sym (off-top n σ p x) ∙ e ∙ off-top n σ r y))
+        (cases-eq (σ r) n))
+        (cases-eq (σ p) n)
 
 onto-more : (n : ℕ) (σ : ℕ → ℕ) → Permutation (suc n) σ → ((s : ℕ) → s < n → (p : ℕ) × (p < n) × (without n σ p ≡ s)) → (s : ℕ) → s < suc n → (p : ℕ) × (p < suc n) × (σ p ≡ s)
 onto-more n σ perm smaller s h = ⊎-elim (λ e. (n, omega arith, sym e)) (λ ne. ⊎-elim (top ne) (lower ne) (cases-eq s n)) (cases-eq s (σ n))
@@ -187,6 +188,7 @@ onto-more n σ perm smaller s h = ⊎-elim (λ e. (n, omega arith, sym e)) (λ n
     top ne e =
         let from = smaller (σ n) (omega (arith, perm .0 n (omega arith))) in
         (from .0, omega arith, ⊎-elim (λ x. x ∙ sym e) (λ x. absurd (let z : from .0 ≡ n = perm .1 (from .0) n (omega arith) (omega arith) (sym (off-top n σ (from .0) x) ∙ from .2) in omega arith)) (cases-eq (σ (from .0)) n))
+
     lower : (s ≡ σ n → ⊥) → (s ≡ n → ⊥) → (p : ℕ) × (p < suc n) × (σ p ≡ s)
     lower ne ne′ =
         let from = smaller s (omega arith) in
@@ -206,14 +208,14 @@ module _ (n : ℕ) (σ : ℕ → ℕ) (perm : Permutation n σ) where
   returned-moved v long =
       ext-getD 0 _ v (length-map-counting _ 0 n ∙ sym long)
       (λ p h. let l : p < n = rw (length-map-counting (λ r. getD (moved n σ v) (σ r) 0) 0 n) at h in
-        getD-map-counting (λ r. getD (moved n σ v) (σ r) 0) 0 n p p 0 l (omega arith) ∙ moved-at v p l)
+      getD-map-counting (λ r. getD (moved n σ v) (σ r) 0) 0 n p p 0 l (omega arith) ∙ moved-at v p l)
 
   -- a word is moved v where its symbol at σ p is v's symbol at p
   pub moved-only : (v w : List ℕ) → length w ≡ n → ((p : ℕ) → p < n → getD w (σ p) 0 ≡ getD v p 0) → w ≡ moved n σ v
   moved-only v w long at =
       ext-getD 0 w _ (long ∙ sym (length-map-counting _ 0 n))
       (λ s h. let from = onto n σ perm s (omega arith) in
-        rw (← from .2) (at (from .0) (from .1) ∙ sym (moved-at v (from .0) (from .1))))
+      rw (← from .2) (at (from .0) (from .1) ∙ sym (moved-at v (from .0) (from .1))))
 
 -- Sums over the places below n, and that a permutation of the places does not change them.
 abbrev sum : ℕ → (ℕ → ℕ) → ℕ
@@ -229,21 +231,21 @@ sum-other : (n r : ℕ) (f g : ℕ → ℕ) → r < n → ((p : ℕ) → p < n �
 sum-other zero r f g h same = absurd (not-suc-le-zero h)
 sum-other (suc n) r f g h same =
     ⊎-elim
-      (λ e. let rest = sum-same n f g (λ p l. same p (omega arith) (λ q. omega arith)) in omega (arith, ap f e, ap g e))
-      (λ ne. omega (arith, same n (omega arith) (λ q. ne (sym q)), sum-other n r f g (omega arith) (λ p l. same p (omega arith))))
-      (cases-eq r n)
+    (λ e. let rest = sum-same n f g (λ p l. same p (omega arith) (λ q. omega arith)) in omega (arith, ap f e, ap g e))
+    (λ ne. omega (arith, same n (omega arith) (λ q. ne (sym q)), sum-other n r f g (omega arith) (λ p l. same p (omega arith))))
+    (cases-eq r n)
 
 sum-without : (n : ℕ) (σ f : ℕ → ℕ) → Permutation (suc n) σ → sum n (λ p. f (σ p)) + f (σ n) ≡ sum n (λ p. f (without n σ p)) + f n
 sum-without n σ f perm =
     ⊎-elim
-      (λ e. let rest = sum-same n (λ p. f (σ p)) (λ p. f (without n σ p)) (λ p l. ap f (sym (off-top n σ p (λ q. let z = perm .1 p n (omega arith) (omega arith) (q ∙ sym e) in omega arith)))) in omega (arith, ap f e))
-      (λ ne.
-        let from = onto (suc n) σ perm n (omega arith) in
-        let r = from .0 in
-        let low : r < n = ⊎-elim (λ l. l) (λ l. absurd (ne (let z : r ≡ n = omega arith in ap σ (sym z) ∙ from .2))) (cases-lt r n) in
-        let other = sum-other n r (λ p. f (σ p)) (λ p. f (without n σ p)) low (λ p l d. ap f (sym (off-top n σ p (λ q. d (perm .1 p r (omega arith) (omega arith) (q ∙ sym (from .2))))))) in
-        omega (arith, ap f (at-top n σ r (from .2)), ap f (from .2)))
-      (cases-eq (σ n) n)
+    (λ e. let rest = sum-same n (λ p. f (σ p)) (λ p. f (without n σ p)) (λ p l. ap f (sym (off-top n σ p (λ q. let z = perm .1 p n (omega arith) (omega arith) (q ∙ sym e) in omega arith)))) in omega (arith, ap f e))
+    (λ ne.
+    let from = onto (suc n) σ perm n (omega arith) in
+    let r = from .0 in
+    let low : r < n = ⊎-elim (λ l. l) (λ l. absurd (ne (let z : r ≡ n = omega arith in ap σ (sym z) ∙ from .2))) (cases-lt r n) in
+    let other = sum-other n r (λ p. f (σ p)) (λ p. f (without n σ p)) low (λ p l d. ap f (sym (off-top n σ p (λ q. d (perm .1 p r (omega arith) (omega arith) (q ∙ sym (from .2))))))) in
+    omega (arith, ap f (at-top n σ r (from .2)), ap f (from .2)))
+    (cases-eq (σ n) n)
 
 sum-permuted : (n : ℕ) (σ f : ℕ → ℕ) → Permutation n σ → sum n (λ p. f (σ p)) ≡ sum n f
 sum-permuted zero σ f perm = refl
@@ -258,6 +260,6 @@ pub distance-returned : (n : ℕ) (σ : ℕ → ℕ) → Permutation n σ → (v
 distance-returned n σ perm v w =
     distance-sum n v (returned n σ w)
     ∙ sum-same n _ (λ p. mark (getD (moved n σ v) (σ p) 0) (getD w (σ p) 0))
-      (λ p h. ap₂ mark (sym (moved-at n σ perm v p h)) (getD-map-counting (λ r. getD w (σ r) 0) 0 n p p 0 h (omega arith)))
+    (λ p h. ap₂ mark (sym (moved-at n σ perm v p h)) (getD-map-counting (λ r. getD w (σ r) 0) 0 n p p 0 h (omega arith)))
     ∙ sum-permuted n σ (λ s. mark (getD (moved n σ v) s 0) (getD w s 0)) perm
     ∙ sym (distance-sum n (moved n σ v) w)

@@ -44,9 +44,9 @@ widen n f zero (suc t) ps e r h l = absurd (omega arith)
 widen n f (suc d) (suc t) [] e r h l = wider-beside n f t [] (omega arith) (widen n (suc f) d t [] (omega arith) tt (omega arith) (omega arith))
 widen n f (suc d) (suc t) (p ∷ ps) e r h l =
     ⊎-elim
-      (λ q. subst (λ x. Wider n f (suc t) (x ∷ ps)) (sym q) (wider-with n f t ps (omega arith) (widen n (suc f) d t ps (omega arith) (subst (λ x. Rising n (suc x) ps) q (r .2)) (omega arith) (omega arith))))
-      (λ ne. ⊎-elim
-        (λ q. wider-beside n f t (p ∷ ps) (omega arith) (widen n (suc f) d t (p ∷ ps) (omega arith) (omega arith, r .1, r .2) (omega (arith, rising-room n (suc p) ps (omega arith) (r .2))) (omega arith)))
-        (λ ne′. wider-up n f (suc t) (p ∷ ps) (widen n (suc f) d (suc t) (p ∷ ps) (omega arith) (omega arith, r .1, r .2) h (omega arith)))
-        (cases-eq t d))
-      (cases-eq p f)
+    (λ q. subst (λ x. Wider n f (suc t) (x ∷ ps)) (sym q) (wider-with n f t ps (omega arith) (widen n (suc f) d t ps (omega arith) (subst (λ x. Rising n (suc x) ps) q (r .2)) (omega arith) (omega arith))))
+    (λ ne. ⊎-elim
+    (λ q. wider-beside n f t (p ∷ ps) (omega arith) (widen n (suc f) d t (p ∷ ps) (omega arith) (omega arith, r .1, r .2) (omega (arith, rising-room n (suc p) ps (omega arith) (r .2))) (omega arith)))
+    (λ ne′. wider-up n f (suc t) (p ∷ ps) (widen n (suc f) d (suc t) (p ∷ ps) (omega arith) (omega arith, r .1, r .2) h (omega arith)))
+    (cases-eq t d))
+    (cases-eq p f)

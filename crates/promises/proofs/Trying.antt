@@ -90,4 +90,4 @@ module _ (D : Plan) (h : Handed) (fit : unfit D h ≡ None) where
         let tested = tested-from C (D .t) (h .list .count) (h .list .target) rules some fits fit-permutes serves in
         both-none _ _ (ap (mapped _) (light-none C (D .t) (h .list .count) (h .list .target) rules some fits fit-permutes (tested .heavy)))
         (both-none _ _ (ap (mapped _) (unkept-none C (D .t) (h .list .count) (h .list .target) rules some fits fit-permutes (tested .keeps-units)))
-          (ap (mapped _) (cleared-none (D .n) (D .k) (D .t) (h .list .count) (h .list .target) (tested .clears-sets))))
+        (ap (mapped _) (cleared-none (D .n) (D .k) (D .t) (h .list .count) (h .list .target) (tested .clears-sets))))

@@ -27,12 +27,12 @@ module _ (n k t m : ℕ) (target : ℕ → ℕ → ℕ) (masks : List ℕ) (are 
       (i, omega arith, of-clears n k 0 (getD masks i 0) (target i) ps (are i (omega arith)) (s .1) c)
 
   pub found-uncleared : (r : Option ℕ)
-    → Cases r ((ps : List ℕ) → SetOf n t ps → Missed masks m ps) (λ x. (s : List ℕ) × (x ≡ bits s) × SetOf n t s × (Missed masks m s → ⊥) × ((ps : List ℕ) → SetOf n t ps → Before ps s → Missed masks m ps))
-    → r ≡ mapped bits (uncleared n k t m target)
+      → Cases r ((ps : List ℕ) → SetOf n t ps → Missed masks m ps) (λ x. (s : List ℕ) × (x ≡ bits s) × SetOf n t s × (Missed masks m s → ⊥) × ((ps : List ℕ) → SetOf n t ps → Before ps s → Missed masks m ps))
+      → r ≡ mapped bits (uncleared n k t m target)
   found-uncleared None all =
       sym (ap (mapped bits) (only-first (cleared k target 0 m) n 0 t _ None (enumerates (cleared k target 0 m) n t) (λ ps long set. to-cleared ps (long, set) (all ps (long, set)))))
   found-uncleared (Some x) (s, e, set, not-missed, before) =
       let no : cleared k target 0 m s ≡ false = ⊎-elim (λ y. absurd (not-missed (to-missed s set y))) (λ f. f) (cases-bool (cleared k target 0 m s)) in
       ap Some e
       ∙ sym (ap (mapped bits) (only-first (cleared k target 0 m) n 0 t _ (Some s) (enumerates (cleared k target 0 m) n t)
-          (set .0, set .1, no, λ ps long rising b. to-cleared ps (long, rising) (before ps (long, rising) b))))
+      (set .0, set .1, no, λ ps long rising b. to-cleared ps (long, rising) (before ps (long, rising) b))))

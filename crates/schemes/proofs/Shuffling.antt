@@ -28,21 +28,22 @@ filled-none n σ targets sources lt ls all =
     (lt, ls, (λ r h. absurd (omega arith)), (λ r h. absurd (omega arith)), (λ r h. absurd (omega arith)), (λ s h ne. absurd (ne (all s h))))
 
 pub filled-more : (n : ℕ) (σ : ℕ → ℕ) (p to : ℕ) (targets sources : List ℕ) → n ≤ 64 → p < n → to ≡ σ p → to < n → getD sources to 0 ≡ 255 → Filled n σ p targets sources → Filled n σ (p + 1) (set targets p to) (set sources to p)
-filled-more n σ p to targets sources few h is low free (lt, ls, below, goes, comes, back) =
-    ( length-set targets p to ∙ lt
-    , length-set sources to p ∙ ls
-    , below-more _ _ below (omega arith)
-    , below-more _ _ (λ r l. let ne : r ≢ p = omega arith in getD-set-other targets p r to 0 ne ∙ goes r l) (getD-set-same targets p to 0 (omega arith) ∙ is)
-    , below-more _ _
-        (λ r l. let ne : σ r ≢ to = λ e. (let z : r ≡ 255 = sym (comes r l) ∙ ap (λ s. getD sources s 0) e ∙ free in omega arith) in getD-set-other sources to (σ r) p 0 ne ∙ comes r l)
-        (ap (λ s. getD (set sources to p) s 0) (sym is) ∙ getD-set-same sources to p 0 (omega arith))
-    , (λ s l ne. ⊎-elim
-        (λ e. let here : getD (set sources to p) s 0 ≡ p = ap (λ x. getD (set sources to p) x 0) e ∙ getD-set-same sources to p 0 (omega arith) in
-          (omega arith, ap σ here ∙ sym is ∙ sym e))
-        (λ d. let there : getD (set sources to p) s 0 ≡ getD sources s 0 = getD-set-other sources to s p 0 d in
-          let old = back s l (λ z. ne (there ∙ z)) in
-          (omega arith, ap σ there ∙ old .1))
-        (cases-eq s to)))
+filled-more n σ p to targets sources few h is low free (lt, ls, below, goes, comes, back) = (
+  length-set targets p to ∙ lt,
+  length-set sources to p ∙ ls,
+  below-more _ _ below (omega arith),
+  below-more _ _ (λ r l. let ne : r ≢ p = omega arith in getD-set-other targets p r to 0 ne ∙ goes r l) (getD-set-same targets p to 0 (omega arith) ∙ is),
+  below-more _ _
+      (λ r l. let ne : σ r ≢ to = λ e. (let z : r ≡ 255 = sym (comes r l) ∙ ap (λ s. getD sources s 0) e ∙ free in omega arith) in getD-set-other sources to (σ r) p 0 ne ∙ comes r l)
+      (ap (λ s. getD (set sources to p) s 0) (sym is) ∙ getD-set-same sources to p 0 (omega arith)),
+  (λ s l ne. ⊎-elim
+      (λ e. let here : getD (set sources to p) s 0 ≡ p = ap (λ x. getD (set sources to p) x 0) e ∙ getD-set-same sources to p 0 (omega arith) in
+      (omega arith, ap σ here ∙ sym is ∙ sym e))
+      (λ d. let there : getD (set sources to p) s 0 ≡ getD sources s 0 = getD-set-other sources to s p 0 d in
+      let old = back s l (λ z. ne (there ∙ z)) in
+      (omega arith, ap σ there ∙ old .1))
+      (cases-eq s to)),
+)
 
 -- a target that has come already is no target of a permutation
 pub filled-twice : (n : ℕ) (σ : ℕ → ℕ) (p to : ℕ) (targets sources : List ℕ) → n ≤ 64 → p < n → to ≡ σ p → to < n → (getD sources to 0 ≡ 255 → ⊥) → Filled n σ p targets sources → Permutation n σ → ⊥
@@ -94,21 +95,23 @@ module _ (v w : List ℕ) (t : ℕ) where
   setting-none k same = (sym (distance-zero k v w same), omega arith, same, λ r h. refl)
 
   pub setting-same : (changed p : ℕ) (word : List ℕ) → getD word p 0 ≡ getD w p 0 → Setting v w t changed word p → Setting v w t changed word (p + 1)
-  setting-same changed p word e (d, few, front, rest) =
-      ( omega (arith, distance-same p v w (sym (rest p (omega arith)) ∙ e), next p)
-      , few
-      , below-more _ _ front e
-      , λ r h. rest r (omega arith))
+  setting-same changed p word e (d, few, front, rest) = (
+    omega (arith, distance-same p v w (sym (rest p (omega arith)) ∙ e), next p),
+    few,
+    below-more _ _ front e,
+    λ r h. rest r (omega arith),
+  )
     where
       next : (q : ℕ) → distance (q + 1) v w ≡ distance (suc q) v w
       next q = ap (λ m. distance m v w) (let z : q + 1 ≡ suc q = omega arith in z)
 
   pub setting-more : (changed p y : ℕ) (word : List ℕ) → p < length word → y ≡ getD w p 0 → (getD word p 0 ≡ y → ⊥) → changed + 1 ≤ t → Setting v w t changed word p → Setting v w t (changed + 1) (set word p y) (p + 1)
-  setting-more changed p y word h is other room (d, few, front, rest) =
-      ( omega (arith, distance-other p v w (λ e. other (rest p (omega arith) ∙ e ∙ sym is)), next p)
-      , room
-      , below-more _ _ (λ r l. let ne : r ≢ p = omega arith in getD-set-other word p r y 0 ne ∙ front r l) (getD-set-same word p y 0 h ∙ is)
-      , λ r l. let ne : r ≢ p = omega arith in getD-set-other word p r y 0 ne ∙ rest r (omega arith))
+  setting-more changed p y word h is other room (d, few, front, rest) = (
+    omega (arith, distance-other p v w (λ e. other (rest p (omega arith) ∙ e ∙ sym is)), next p),
+    room,
+    below-more _ _ (λ r l. let ne : r ≢ p = omega arith in getD-set-other word p r y 0 ne ∙ front r l) (getD-set-same word p y 0 h ∙ is),
+    λ r l. let ne : r ≢ p = omega arith in getD-set-other word p r y 0 ne ∙ rest r (omega arith),
+  )
     where
       next : (q : ℕ) → distance (q + 1) v w ≡ distance (suc q) v w
       next q = ap (λ m. distance m v w) (let z : q + 1 ≡ suc q = omega arith in z)

@@ -16,6 +16,7 @@ use Rattle.schemes.specs.declared.scheme.Rejected.{Rejected}
 use Rattle.schemes.specs.declared.scheme.Tally.{Tally}
 use Rattle.promises.specs.Scheme.{Plan, plan, Handed, Scheme, scheme, Counts, none}
 use Rattle.promises.specs.Trial.{verdict}
+use Rattle.promises.specs.Calls.{Encoding, Correcting}
 
 -- A call answers by a refusal exactly when there is one, and else by a value that has the property P.
 abbrev pub Answers : {A : Type 0} → Option Refusal → Result A Fault → (A → Type 0) → Type 0
@@ -47,3 +48,15 @@ pub record Shuffled (n : ℕ) (σ : ℕ → ℕ) (targets sources : List ℕ) : 
   pub goes : (p : ℕ) → p < n → getD targets p 0 ≡ σ p
   pub comes : (p : ℕ) → p < n → getD sources (σ p) 0 ≡ p
   pub within : (s : ℕ) → s < n → getD sources s 0 < n
+
+-- an answer with its refusal
+abbrev pub answered : {A : Type 0} → Result A Fault → Result A Refusal
+answered (Ok x) = Ok x
+answered (Err f) = Err (refusal f)
+
+-- the calls, as data
+abbrev pub encoding : Handed → List ℕ → List ℕ → Result (Unit {0}) Fault → List ℕ → Encoding
+encoding h u before answer after = record { handed = h; message = u; before = before; answer = answered answer; after = after }
+
+abbrev pub correcting : Handed → List ℕ → List ℕ → Result (ℕ × ℕ) Fault → List ℕ → Correcting
+correcting h v before answer after = record { handed = h; block = v; before = before; answer = answered answer; after = after }

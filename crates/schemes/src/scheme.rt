@@ -4,6 +4,7 @@ ghost use Prim.Native.Nat.{_+_, _*_, _^_, _<_, _≤_};
 use faults::Fault;
 
 mod attempting;
+mod calling;
 mod drafting;
 mod marking;
 mod permuting;

@@ -57,7 +57,15 @@ fn gather(v: &[u8], places: &[u8; 64], out: &mut [u8])
 }
 
 // Gives the word the check symbols of the message, and answers in how many places it changed; none where these are more than t.
-fn set_checks<K: Kind>(kind: &K, n: usize, k: usize, rows: &[u8], message: &[u8], t: u8, word: &mut [u8]) -> Option<u8>
+fn set_checks<K: Kind>(
+    kind: &K,
+    n: usize,
+    k: usize,
+    rows: &[u8],
+    message: &[u8],
+    t: u8,
+    word: &mut [u8],
+) -> Option<u8>
     requires order { ⌜ (k < n) × (n ≤ 64) × (t ≤ 5) ⌝ }
     requires size { ⌜ length (now rows) ≡ k * (n - k) ⌝ }
     requires long { ⌜ (length (now message) ≡ k) × (length (now word) ≡ n) ⌝ }
@@ -144,7 +152,19 @@ fn attempt<K: Kind, L: Permutations>(
 {
     let mut message = [0u8; 64];
     let mut word = [0u8; 64];
-    attempt_in(kind, list, i, n, k, t, rows, v, &mut message[0..k], &mut word[0..n], out)
+    attempt_in(
+        kind,
+        list,
+        i,
+        n,
+        k,
+        t,
+        rows,
+        v,
+        &mut message[0..k],
+        &mut word[0..n],
+        out,
+    )
 }
 
 // The distance and the number of the first attempt that succeeds, with its word in `word`, which any attempt may change.

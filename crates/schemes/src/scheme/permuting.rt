@@ -117,7 +117,15 @@ fn keeps_unit_in<K: Kind, L: Permutations>(
 }
 
 // Whether permutation i takes the codeword of unit message j to a codeword.
-fn keeps_unit<K: Kind, L: Permutations>(kind: &K, list: &L, i: u16, n: usize, k: usize, rows: &[u8], j: usize) -> bool
+fn keeps_unit<K: Kind, L: Permutations>(
+    kind: &K,
+    list: &L,
+    i: u16,
+    n: usize,
+    k: usize,
+    rows: &[u8],
+    j: usize,
+) -> bool
     requires order { ⌜ (0 < k) × (k < n) × (n ≤ 64) ⌝ }
     requires size { ⌜ length (now rows) ≡ k * (n - k) ⌝ }
     requires within { ⌜ i < meaning (now list) .count ⌝ }
@@ -128,11 +136,29 @@ fn keeps_unit<K: Kind, L: Permutations>(kind: &K, list: &L, i: u16, n: usize, k:
     let mut message = [0u8; 64];
     let mut word = [0u8; 64];
     let mut image = [0u8; 64];
-    keeps_unit_in(kind, list, i, n, k, rows, j, &mut message[0..k], &mut word[0..n], &mut image[0..n])
+    keeps_unit_in(
+        kind,
+        list,
+        i,
+        n,
+        k,
+        rows,
+        j,
+        &mut message[0..k],
+        &mut word[0..n],
+        &mut image[0..n],
+    )
 }
 
 // The first unit message whose codeword permutation i takes to no codeword.
-fn unkept_unit<K: Kind, L: Permutations>(kind: &K, list: &L, i: u16, n: usize, k: usize, rows: &[u8]) -> Option<u8>
+fn unkept_unit<K: Kind, L: Permutations>(
+    kind: &K,
+    list: &L,
+    i: u16,
+    n: usize,
+    k: usize,
+    rows: &[u8],
+) -> Option<u8>
     requires order { ⌜ (0 < k) × (k < n) × (n ≤ 64) ⌝ }
     requires size { ⌜ length (now rows) ≡ k * (n - k) ⌝ }
     requires within { ⌜ i < meaning (now list) .count ⌝ }
@@ -149,7 +175,13 @@ fn unkept_unit<K: Kind, L: Permutations>(kind: &K, list: &L, i: u16, n: usize, k
 }
 
 // The first permutation that takes the codeword of a unit message to no codeword, and the first such message.
-pub(crate) fn unkept<K: Kind, L: Permutations>(kind: &K, list: &L, n: usize, k: usize, rows: &[u8]) -> Option<(u16, u8)>
+pub(crate) fn unkept<K: Kind, L: Permutations>(
+    kind: &K,
+    list: &L,
+    n: usize,
+    k: usize,
+    rows: &[u8],
+) -> Option<(u16, u8)>
     requires order { ⌜ (0 < k) × (k < n) × (n ≤ 64) ⌝ }
     requires size { ⌜ length (now rows) ≡ k * (n - k) ⌝ }
     requires long { ⌜ n ≡ meaning (now list) .places ⌝ }

@@ -24,7 +24,14 @@ fn message(x: u32, q: u8, k: usize) -> [u8; 16]
 }
 
 // The smallest non-zero message, as a number, whose codeword has at most `limit` non-zero symbols; `count` is the number of messages.
-pub(crate) fn first_light<K: Kind>(kind: &K, n: usize, k: usize, rows: &[u8], limit: usize, count: u32) -> Option<u32>
+pub(crate) fn first_light<K: Kind>(
+    kind: &K,
+    n: usize,
+    k: usize,
+    rows: &[u8],
+    limit: usize,
+    count: u32,
+) -> Option<u32>
     requires order { ⌜ (k < n) × (n ≤ 64) × (k ≤ 16) ⌝ }
     requires size { ⌜ length (now rows) ≡ k * (n - k) ⌝ }
     requires all { ⌜ count ≡ ring (now kind) .q ^ k ⌝ }

@@ -6,7 +6,9 @@ ghost use Rattle.std.specs.Results.{isOk};
 ghost use Rattle.std.specs.declared.option.Option.the-variants.{None};
 ghost use Rattle.promises.specs.Scheme.{handing};
 ghost use Rattle.promises.specs.Trial.{unfit, fails, verdict, Serves, Exactly};
-ghost use Rattle.schemes.specs.Told.{Answers, planned, Tried};
+ghost use Rattle.promises.specs.Promise.{Promise};
+ghost use Rattle.std.specs.Vec.{made};
+ghost use Rattle.schemes.specs.Told.{Answers, planned, kept, Tried};
 use crate::scheme::Draft;
 use crate::scheme::Live;
 use crate::scheme::Rejected;
@@ -23,7 +25,12 @@ use symbols::Kind;
 
 impl Draft {
     // Refusals 6 to 9: whether kind, rows and list are fit to be tried.
-    fn check_fit<K: Kind, L: Permutations>(&self, kind: &K, list: &L, rows: &[u8]) -> Result<(), Fault>
+    fn check_fit<K: Kind, L: Permutations>(
+        &self,
+        kind: &K,
+        list: &L,
+        rows: &[u8],
+    ) -> Result<(), Fault>
         ensures { λ r. ⌜ Answers (unfit (planned (now (self .entry))) (handing (ring (now (kind .entry))) (now (rows .entry)) (meaning (now (list .entry))))) r (λ _. Unit {0}) ⌝ }
     {
         let n = self.n as usize;
@@ -44,7 +51,12 @@ impl Draft {
     }
 
     // Refusals 10 to 12: whether the code and the list serve.
-    fn check_code<K: Kind, L: Permutations>(&self, kind: &K, list: &L, rows: &[u8]) -> Result<(), Fault>
+    fn check_code<K: Kind, L: Permutations>(
+        &self,
+        kind: &K,
+        list: &L,
+        rows: &[u8],
+    ) -> Result<(), Fault>
         requires { ⌜ unfit (planned (now self)) (handing (ring (now kind)) (now rows) (meaning (now list))) ≡ None ⌝ }
         ensures { λ r. ⌜ Answers (fails (planned (now (self .entry))) (handing (ring (now (kind .entry))) (now (rows .entry)) (meaning (now (list .entry))))) r (λ _. Unit {0}) ⌝ }
     {
@@ -66,7 +78,12 @@ impl Draft {
     }
 
     // The first refusal of a trial.
-    fn examine<K: Kind, L: Permutations>(&self, kind: &K, list: &L, rows: &[u8]) -> Result<(), Fault>
+    fn examine<K: Kind, L: Permutations>(
+        &self,
+        kind: &K,
+        list: &L,
+        rows: &[u8],
+    ) -> Result<(), Fault>
         ensures { λ r. ⌜ Answers (verdict (planned (now (self .entry))) (handing (ring (now (kind .entry))) (now (rows .entry)) (meaning (now (list .entry))))) r (λ _. Unit {0}) ⌝ }
     {
         self.check_fit(kind, list, rows)?;
@@ -74,8 +91,14 @@ impl Draft {
     }
 
     // Puts the draft on trial: a live scheme with an empty tally, or the same draft with the first refusal.
-    pub fn trial<K: Kind, L: Permutations>(self, kind: &K, list: &L, rows: &[u8]) -> Result<Live, Rejected>
+    pub fn trial<K: Kind, L: Permutations>(
+        self,
+        kind: &K,
+        list: &L,
+        rows: &[u8],
+    ) -> Result<Live, Rejected>
         ensures tried { λ r. ⌜ Tried (planned self) (handing (ring (now (kind .entry))) (now (rows .entry)) (meaning (now (list .entry)))) r ⌝ }
+        ensures promised { λ r. ⌜ made r (λ live. Promise (kept live) (handing (ring (now (kind .entry))) (now (rows .entry)) (meaning (now (list .entry))))) ⌝ }
         ensures exactly { λ r. ⌜ (unfit (planned self) (handing (ring (now (kind .entry))) (now (rows .entry)) (meaning (now (list .entry)))) ≡ None → Exactly (isOk r ≡ true) (Serves (planned self) (handing (ring (now (kind .entry))) (now (rows .entry)) (meaning (now (list .entry)))))) ⌝ }
     {
         match self.examine(kind, list, rows) {

@@ -21,7 +21,14 @@ pub(crate) fn first_excess(q: u8, word: &[u8]) -> Option<usize>
 }
 
 // Check symbol j of a message.
-pub(crate) fn check_symbol<K: Kind>(kind: &K, n: usize, k: usize, rows: &[u8], message: &[u8], j: usize) -> u8
+pub(crate) fn check_symbol<K: Kind>(
+    kind: &K,
+    n: usize,
+    k: usize,
+    rows: &[u8],
+    message: &[u8],
+    j: usize,
+) -> u8
     requires order { ⌜ k < n ⌝ }
     requires few { ⌜ n ≤ 64 ⌝ }
     requires size { ⌜ length (now rows) ≡ k * (n - k) ⌝ }
@@ -37,7 +44,14 @@ pub(crate) fn check_symbol<K: Kind>(kind: &K, n: usize, k: usize, rows: &[u8], m
 }
 
 // Writes the codeword of a message.
-pub(crate) fn encode_into<K: Kind>(kind: &K, n: usize, k: usize, rows: &[u8], message: &[u8], out: &mut [u8])
+pub(crate) fn encode_into<K: Kind>(
+    kind: &K,
+    n: usize,
+    k: usize,
+    rows: &[u8],
+    message: &[u8],
+    out: &mut [u8],
+)
     requires order { ⌜ k < n ⌝ }
     requires few { ⌜ n ≤ 64 ⌝ }
     requires size { ⌜ length (now rows) ≡ k * (n - k) ⌝ }
@@ -83,7 +97,14 @@ fn nonzero(w: &[u8]) -> usize
 }
 
 // Whether the codeword of a message has at most `limit` symbols that are not 0.
-pub(crate) fn is_light<K: Kind>(kind: &K, n: usize, k: usize, rows: &[u8], message: &[u8], limit: usize) -> bool
+pub(crate) fn is_light<K: Kind>(
+    kind: &K,
+    n: usize,
+    k: usize,
+    rows: &[u8],
+    message: &[u8],
+    limit: usize,
+) -> bool
     requires order { ⌜ k < n ⌝ }
     requires few { ⌜ n ≤ 64 ⌝ }
     requires size { ⌜ length (now rows) ≡ k * (n - k) ⌝ }

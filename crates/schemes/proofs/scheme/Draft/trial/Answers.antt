@@ -1,10 +1,12 @@
-use mathlib.Core.Path.{_≡_, refl, sym, ap, _∙_}
+use mathlib.Core.Path.{_≡_, refl, sym, ap, subst, _∙_}
 use mathlib.Core.Bool.{true, false}
 use Prim.Native.Nat.{ℕ}
 use native.Mathlib.Omega.{arith}
 use Rattle.std.proofs.shelf.Tests.{false≢true}
 use Rattle.promises.specs.Scheme.{Plan, plan, Handed, handing, Scheme}
 use Rattle.promises.specs.Trial.{unfit, fails}
+use Rattle.promises.specs.Promise.{Promise}
+use Rattle.promises.proofs.Promised.{law}
 use Rattle.codes.proofs.Found.{none-some}
 use Rattle.promises.proofs.Trying.{second-none, both-none, passes-serves, serves-passes}
 use Rattle.schemes.proofs.scheme.Draft.trial.Needs as need
@@ -20,6 +22,7 @@ returns-in-Ok g c =
     let none = c .in-Ok .ensures tt .0 in
     record {
       tried = (none, with-count D _ _ (c .count .ensures), refl);
+      promised = subst (λ S. Promise S h) (sym (with-count D _ _ (c .count .ensures))) (law D h (record { rules = g .K·Kind·met .rules (c .args .kind .now); some = omega arith; order = omega arith; verdict-none = none }));
       exactly = λ fit. ((λ _. passes-serves D h fit (g .K·Kind·met .rules (c .args .kind .now)) (omega arith) (omega arith) (second-none (unfit D h) (fails D h) none)), (λ _. refl));
     }
 
@@ -31,7 +34,9 @@ returns-in-Err g c =
     let some = c .in-Err .ensures tt in
     record {
       tried = (some, refl);
+      promised = tt;
       exactly = λ fit. (
         (λ e. absurd (false≢true e)),
-        (λ serves. absurd (none-some _ (sym (both-none (unfit D h) (fails D h) fit (serves-passes D h fit (g .K·Kind·met .rules (c .args .kind .now)) (omega arith) (omega arith) serves)) ∙ some))));
+        (λ serves. absurd (none-some _ (sym (both-none (unfit D h) (fails D h) fit (serves-passes D h fit (g .K·Kind·met .rules (c .args .kind .now)) (omega arith) (omega arith) serves)) ∙ some))),
+      );
     }

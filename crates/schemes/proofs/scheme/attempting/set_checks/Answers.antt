@@ -16,7 +16,7 @@ loop-j-holds g c =
     let v = c .args .word .now in
     subst (Setting v (codeword C u) (c .args .t) 0 v) (let z : c .args .k ≡ c .args .k + 0 = omega arith in z)
     (setting-none v (codeword C u) (c .args .t) (c .args .k)
-      (λ r h. sym (codeword-message C u (c .pre .long .0) r h ∙ ap (λ x. getD x r 0) (c .pre .front) ∙ getD-take (c .args .k) v r 0 h)))
+    (λ r h. sym (codeword-message C u (c .pre .long .0) r h ∙ ap (λ x. getD x r 0) (c .pre .front) ∙ getD-take (c .args .k) v r 0 h)))
 
 pub returns-then-changed-t : need.returns-then-changed-t
 returns-then-changed-t g c =

@@ -15,6 +15,6 @@ returns g c =
     let masks = c .masks-of-masks .result in
     let same : c .count .result ≡ M .count = c .count .ensures in
     let are : (i : ℕ) → i < c .count .result → MaskOf (c .args .n) (c .args .k) (M .target i) (getD masks i 0) =
-      λ i h. c .masks-of-masks .ensures i (subst (λ (m : ℕ). i < m) same h) in
+    λ i h. c .masks-of-masks .ensures i (subst (λ (m : ℕ). i < m) same h) in
     found-uncleared (c .args .n) (c .args .k) (c .args .t) (c .count .result) (M .target) masks are (c .first-met .result) (c .first-met .ensures)
     ∙ ap (λ m. mapped bits (uncleared (c .args .n) (c .args .k) (c .args .t) m (M .target))) same

@@ -27,7 +27,7 @@ returns-then-came-earlier g c =
     let e = c .in-Some .ensures tt in
     let at : c .in-Some .to ≡ σ (c .loop-p .p) = grind (arith, tells) in
     let here : clashes (c .args .n) σ (c .loop-p .p) ≡ true =
-      or-right _ _ (ap (λ x. isSome (least (λ s. eqb (σ s) x) 0 (c .loop-p .p))) (sym at) ∙ sym (c .came-earlier .ensures) ∙ c .if-came-earlier .taken) in
+    or-right _ _ (ap (λ x. isSome (least (λ s. eqb (σ s) x) 0 (c .loop-p .p))) (sym at) ∙ sym (c .came-earlier .ensures) ∙ c .if-came-earlier .taken) in
     sym (least-some (clashes (c .args .n) σ) 0 (c .args .n) (c .loop-p .p) (omega arith) (omega arith) here (λ y _ h. c .loop-p .inv y h))
 
 pub loop-p-again : need.loop-p-again

@@ -18,10 +18,10 @@ loop-p-again c =
     let xs = c .loop-p .out in
     let x = c .if-p-j .out in
     let here : x ≡ cond (eqb p (c .args .j)) 1 0 =
-      elim (c .if-p-j .came) [
-        | then-p-j w ↦ let e = w .out-is in let h = w .if-p-j .taken in grind (arith, tells)
-        | else-p-j w ↦ let e = w .out-is in let h = w .if-p-j .left in grind (arith, tells)
-      ] in
+    elim (c .if-p-j .came) [
+      | then-p-j w ↦ let e = w .out-is in let h = w .if-p-j .taken in grind (arith, tells)
+      | else-p-j w ↦ let e = w .out-is in let h = w .if-p-j .left in grind (arith, tells)
+    ] in
     below-more _ _
     (λ r h. let ne : r ≢ p = omega arith in getD-set-other xs p r x 0 ne ∙ c .loop-p .inv r h)
     (getD-set-same xs p x 0 (omega arith) ∙ here)
