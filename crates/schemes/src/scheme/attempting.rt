@@ -56,6 +56,15 @@ fn gather(v: &[u8], places: &[u8; 64], out: &mut [u8])
     }
 }
 
+// Brings a word back: the symbol of each place is that at the place's target.
+fn bring_back(word: &[u8], shuffle: &Shuffle, out: &mut [u8])
+    requires few { ⌜ length (now out) ≤ 64 ⌝ }
+    requires within { ⌜ ((s : ℕ) → s < length (now out) → getD (now shuffle .targets) s 0 < length (now word)) ⌝ }
+    ensures { λ _. ⌜ ((s : ℕ) → s < length (now (out .entry)) → getD (now (out .exit)) s 0 ≡ getD (now (word .entry)) (getD (now (shuffle .entry) .targets) s 0) 0) ⌝ }
+{
+    gather(word, &shuffle.targets, out);
+}
+
 // Gives the word the check symbols of the message, and answers in how many places it changed; none where these are more than t.
 fn set_checks<K: Kind>(
     kind: &K,
@@ -120,7 +129,7 @@ fn attempt_in<K: Kind, L: Permutations>(
     let Some(d) = set_checks(kind, n, k, rows, message, t, word) else {
         return None;
     };
-    gather(word, &shuffle.targets, out);
+    bring_back(word, &shuffle, out);
     if !is_codeword(kind, n, k, rows, out) {
         return None;
     }

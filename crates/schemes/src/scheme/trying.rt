@@ -90,16 +90,9 @@ impl Draft {
         self.check_code(kind, list, rows)
     }
 
-    // Puts the draft on trial: a live scheme with an empty tally, or the same draft with the first refusal.
-    pub fn trial<K: Kind, L: Permutations>(
-        self,
-        kind: &K,
-        list: &L,
-        rows: &[u8],
-    ) -> Result<Live, Rejected>
-        ensures tried { λ r. ⌜ Tried (planned self) (handing (ring (now (kind .entry))) (now (rows .entry)) (meaning (now (list .entry)))) r ⌝ }
-        ensures promised { λ r. ⌜ made r (λ live. Promise (kept live) (handing (ring (now (kind .entry))) (now (rows .entry)) (meaning (now (list .entry))))) ⌝ }
-        ensures exactly { λ r. ⌜ (unfit (planned self) (handing (ring (now (kind .entry))) (now (rows .entry)) (meaning (now (list .entry)))) ≡ None → Exactly (isOk r ≡ true) (Serves (planned self) (handing (ring (now (kind .entry))) (now (rows .entry)) (meaning (now (list .entry)))))) ⌝ }
+    // The answer of a trial.
+    fn decide<K: Kind, L: Permutations>(self, kind: &K, list: &L, rows: &[u8]) -> Result<Live, Rejected>
+        ensures { λ r. ⌜ Tried (planned self) (handing (ring (now (kind .entry))) (now (rows .entry)) (meaning (now (list .entry)))) r ⌝ }
     {
         match self.examine(kind, list, rows) {
             Ok(()) => Ok(Live {
@@ -115,5 +108,23 @@ impl Draft {
             }),
             Err(fault) => Err(Rejected { draft: self, fault }),
         }
+    }
+
+    // Puts the draft on trial: a live scheme with an empty tally, or the same draft with the first refusal.
+    pub fn trial<K: Kind, L: Permutations>(self, kind: &K, list: &L, rows: &[u8]) -> Result<Live, Rejected>
+        ensures tried { λ r. ⌜ Tried (planned self) (handing (ring (now (kind .entry))) (now (rows .entry)) (meaning (now (list .entry)))) r ⌝ }
+        ensures promised { λ r. ⌜ made r (λ live. Promise (kept live) (handing (ring (now (kind .entry))) (now (rows .entry)) (meaning (now (list .entry))))) ⌝ }
+        ensures exactly { λ r. ⌜ (unfit (planned self) (handing (ring (now (kind .entry))) (now (rows .entry)) (meaning (now (list .entry)))) ≡ None → Exactly (isOk r ≡ true) (Serves (planned self) (handing (ring (now (kind .entry))) (now (rows .entry)) (meaning (now (list .entry)))))) ⌝ }
+    {
+        self.decide(kind, list, rows)
+    }
+}
+
+// A rejected draft is let go where only the fault goes on.
+pub impl From<Rejected> for Fault as FaultFromRejected {
+    ghost converts = { λ x r. r ≡ x .fault };
+
+    fn from(rejected: Rejected) -> Fault {
+        rejected.fault
     }
 }

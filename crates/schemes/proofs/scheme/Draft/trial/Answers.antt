@@ -1,42 +1,44 @@
 use mathlib.Core.Path.{_≡_, refl, sym, ap, subst, _∙_}
 use mathlib.Core.Bool.{true, false}
-use Prim.Native.Nat.{ℕ}
+use Prim.Native.Nat.{ℕ, _<_, _≤_}
 use native.Mathlib.Omega.{arith}
+use Rattle.std.specs.Results.{isOk}
+use Rattle.std.specs.Vec.{made}
+use Rattle.std.specs.declared.result.Result.{Result}
+use Rattle.std.specs.declared.result.Result.the-variants.{Ok, Err}
+use Rattle.std.specs.declared.option.Option.the-variants.{None}
 use Rattle.std.proofs.shelf.Tests.{false≢true}
+use Rattle.symbols.specs.Ring.{RingRules}
+use Rattle.codes.proofs.Found.{none-some}
 use Rattle.promises.specs.Scheme.{Plan, plan, Handed, handing, Scheme}
-use Rattle.promises.specs.Trial.{unfit, fails}
+use Rattle.promises.specs.Trial.{unfit, fails, Serves, Exactly}
 use Rattle.promises.specs.Promise.{Promise}
 use Rattle.promises.proofs.Promised.{law}
-use Rattle.codes.proofs.Found.{none-some}
 use Rattle.promises.proofs.Trying.{second-none, both-none, passes-serves, serves-passes}
+use Rattle.schemes.specs.declared.scheme.Live.{Live}
+use Rattle.schemes.specs.declared.scheme.Rejected.{Rejected}
+use Rattle.schemes.specs.Told.{Tried, kept}
 use Rattle.schemes.proofs.scheme.Draft.trial.Needs as need
 
-with-count : (D : Plan) (a b : ℕ) → a ≡ b → _≡_ {A = Scheme} (record { n = D .n; k = D .k; t = D .t; q = D .q; m = a }) (record { n = D .n; k = D .k; t = D .t; q = D .q; m = b })
-with-count D a b e = ap (λ m. record { n = D .n; k = D .k; t = D .t; q = D .q; m = m }) e
+module _ (D : Plan) (h : Handed) (rules : RingRules (h .ring)) (some : 0 < D .k) (order : D .k < D .n) where
+  promised-by : (r : Result Live Rejected) → Tried D h r → made r (λ live. Promise (kept live) h)
+  promised-by (Ok live) (none, is, _) = subst (λ S. Promise S h) (sym is) (law D h (record { rules = rules; some = some; order = order; verdict-none = none }))
+  promised-by (Err x) tried = tt
 
-pub returns-in-Ok : need.returns-in-Ok
-returns-in-Ok g c =
+  exactly-by : (r : Result Live Rejected) → Tried D h r → unfit D h ≡ None → Exactly (isOk r ≡ true) (Serves D h)
+  exactly-by (Ok live) (none, _, _) fit = ((λ _. passes-serves D h fit rules some (omega arith) (second-none (unfit D h) (fails D h) none)), (λ _. refl))
+  exactly-by (Err x) (found, _) fit =
+      ( (λ e. absurd (false≢true e))
+      , (λ serves. absurd (none-some _ (sym (both-none (unfit D h) (fails D h) fit (serves-passes D h fit rules some (omega arith) serves)) ∙ found))))
+
+pub returns : need.returns
+returns g c =
     let d = c .args .self in
     let D : Plan = plan (d .n) (d .k) (d .t) (d .q) in
     let h : Handed = handing (g .K·Kind .ring (c .args .kind .now)) (c .args .rows .now) (g .L·Permutations .meaning (c .args .list .now)) in
-    let none = c .in-Ok .ensures tt .0 in
+    let rules = g .K·Kind·met .rules (c .args .kind .now) in
     record {
-      tried = (none, with-count D _ _ (c .count .ensures), refl);
-      promised = subst (λ S. Promise S h) (sym (with-count D _ _ (c .count .ensures))) (law D h (record { rules = g .K·Kind·met .rules (c .args .kind .now); some = omega arith; order = omega arith; verdict-none = none }));
-      exactly = λ fit. ((λ _. passes-serves D h fit (g .K·Kind·met .rules (c .args .kind .now)) (omega arith) (omega arith) (second-none (unfit D h) (fails D h) none)), (λ _. refl));
-    }
-
-pub returns-in-Err : need.returns-in-Err
-returns-in-Err g c =
-    let d = c .args .self in
-    let D : Plan = plan (d .n) (d .k) (d .t) (d .q) in
-    let h : Handed = handing (g .K·Kind .ring (c .args .kind .now)) (c .args .rows .now) (g .L·Permutations .meaning (c .args .list .now)) in
-    let some = c .in-Err .ensures tt in
-    record {
-      tried = (some, refl);
-      promised = tt;
-      exactly = λ fit. (
-        (λ e. absurd (false≢true e)),
-        (λ serves. absurd (none-some _ (sym (both-none (unfit D h) (fails D h) fit (serves-passes D h fit (g .K·Kind·met .rules (c .args .kind .now)) (omega arith) (omega arith) serves)) ∙ some))),
-      );
+      tried = c .decide .ensures;
+      promised = promised-by D h rules (omega arith) (omega arith) (c .decide .result) (c .decide .ensures);
+      exactly = exactly-by D h rules (omega arith) (omega arith) (c .decide .result) (c .decide .ensures);
     }

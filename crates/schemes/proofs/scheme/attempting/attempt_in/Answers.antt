@@ -48,9 +48,9 @@ is-codeword-requires g c κs =
     let message = message-moved (c .args .n) σ _ _ sh v (c .gather .last .out) (c .args .k) (omega arith) lu (λ s h. c .gather .ensures s (omega arith)) in
     let block = word-moved (c .args .n) σ _ _ sh v (c .gather-2 .last .out) lw (λ s h. c .gather-2 .ensures s (omega arith)) in
     let found = c .in-Some-set-checks .ensures tt in
-    let lo : length (c .gather-3 .last .out) ≡ c .args .n = omega arith in
-    let back = word-returned (c .args .n) σ _ _ sh (c .set-checks .last .word) (c .gather-3 .last .out) lo (λ s h. c .gather-3 .ensures s (omega arith)) in
-    let is = candidate-out C σ (sh .permutes) v _ _ message block (c .set-checks .last .word) (c .gather-3 .last .out) (found .2) back in
+    let lo : length (c .bring-back .last .out) ≡ c .args .n = omega arith in
+    let back = word-returned (c .args .n) σ _ _ sh (c .set-checks .last .word) (c .bring-back .last .out) lo (λ s h. c .bring-back .ensures s (omega arith)) in
+    let is = candidate-out C σ (sh .permutes) v _ _ message block (c .set-checks .last .word) (c .bring-back .last .out) (found .2) back in
     record {
       order = c .pre .order .0;
       few = c .pre .order .1;
@@ -69,9 +69,9 @@ returns-then-not-is-codeword g c =
     let message = message-moved (c .args .n) σ _ _ sh v (c .gather .last .out) (c .args .k) (omega arith) lu (λ s h. c .gather .ensures s (omega arith)) in
     let block = word-moved (c .args .n) σ _ _ sh v (c .gather-2 .last .out) lw (λ s h. c .gather-2 .ensures s (omega arith)) in
     let found = c .in-Some-set-checks .ensures tt in
-    let lo : length (c .gather-3 .last .out) ≡ c .args .n = omega arith in
-    let back = word-returned (c .args .n) σ _ _ sh (c .set-checks .last .word) (c .gather-3 .last .out) lo (λ s h. c .gather-3 .ensures s (omega arith)) in
-    let is = candidate-out C σ (sh .permutes) v _ _ message block (c .set-checks .last .word) (c .gather-3 .last .out) (found .2) back in
+    let lo : length (c .bring-back .last .out) ≡ c .args .n = omega arith in
+    let back = word-returned (c .args .n) σ _ _ sh (c .set-checks .last .word) (c .bring-back .last .out) lo (λ s h. c .bring-back .ensures s (omega arith)) in
+    let is = candidate-out C σ (sh .permutes) v _ _ message block (c .set-checks .last .word) (c .bring-back .last .out) (found .2) back in
     λ s. false≢true (sym (c .if-not-is-codeword .taken) ∙ c .is-codeword .ensures .1 (subst (Codeword C) (sym is) (s .1)))
 
 pub returns : need.returns
@@ -85,8 +85,8 @@ returns g c =
     let message = message-moved (c .args .n) σ _ _ sh v (c .gather .last .out) (c .args .k) (omega arith) lu (λ s h. c .gather .ensures s (omega arith)) in
     let block = word-moved (c .args .n) σ _ _ sh v (c .gather-2 .last .out) lw (λ s h. c .gather-2 .ensures s (omega arith)) in
     let found = c .in-Some-set-checks .ensures tt in
-    let lo : length (c .gather-3 .last .out) ≡ c .args .n = omega arith in
-    let back = word-returned (c .args .n) σ _ _ sh (c .set-checks .last .word) (c .gather-3 .last .out) lo (λ s h. c .gather-3 .ensures s (omega arith)) in
-    let is = candidate-out C σ (sh .permutes) v _ _ message block (c .set-checks .last .word) (c .gather-3 .last .out) (found .2) back in
+    let lo : length (c .bring-back .last .out) ≡ c .args .n = omega arith in
+    let back = word-returned (c .args .n) σ _ _ sh (c .set-checks .last .word) (c .bring-back .last .out) lo (λ s h. c .bring-back .ensures s (omega arith)) in
+    let is = candidate-out C σ (sh .permutes) v _ _ message block (c .set-checks .last .word) (c .bring-back .last .out) (found .2) back in
     let far = found .0 ∙ distance-candidate C σ (sh .permutes) v _ _ message block in
     ((sh .permutes, subst (Codeword C) is (c .is-codeword .ensures .0 (c .if-not-is-codeword .left)), subst (λ x. x ≤ c .args .t) far (found .1)), is, far ∙ ap (distance (c .args .n) v) (sym is))
