@@ -3,6 +3,9 @@
 pub mod scheme;
 
 pub use scheme::Draft;
+pub use scheme::FaultFromRejected;
 pub use scheme::Live;
 pub use scheme::Rejected;
 pub use scheme::Tally;
+pub use scheme::TallyDebug;
+pub use scheme::TallyPartialEq;

@@ -55,3 +55,12 @@ pub struct Rejected {
     pub draft: Draft,
     pub fault: Fault,
 }
+
+// A rejected draft is let go where only the fault goes on.
+pub impl From<Rejected> for Fault as FaultFromRejected {
+    ghost converts = { λ x r. r ≡ x .fault };
+
+    fn from(rejected: Rejected) -> Fault {
+        rejected.fault
+    }
+}

@@ -119,12 +119,3 @@ impl Draft {
         self.decide(kind, list, rows)
     }
 }
-
-// A rejected draft is let go where only the fault goes on.
-pub impl From<Rejected> for Fault as FaultFromRejected {
-    ghost converts = { λ x r. r ≡ x .fault };
-
-    fn from(rejected: Rejected) -> Fault {
-        rejected.fault
-    }
-}

@@ -1,0 +1,5 @@
+pub mod Contents
+pub mod Layout
+pub mod Limits
+pub mod Held
+pub mod Trips
