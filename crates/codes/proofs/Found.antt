@@ -6,11 +6,11 @@ use mathlib.Core.List.{List, [], _∷_}
 use Prim.Native.Nat.{ℕ, zero, suc, _+_, _-_, _<_, _≤_}
 use native.Mathlib.Omega.{arith}
 use lib.ListN.{length}
-use Rattle.std.specs.Options.{mapped, orOther, isSome}
+use Rattle.std.specs.Options.{Cases, mapped, orOther, isSome}
 use Rattle.std.specs.declared.option.Option.{Option}
 use Rattle.std.specs.declared.option.Option.the-variants.{Some, None}
 use Rattle.std.proofs.shelf.Tests.{true≢false, cases-eq, cases-lt, cond-true, cond-false, cases-bool}
-use Rattle.codes.specs.Search.{least, leastWith}
+use Rattle.codes.specs.Search.{least, leastWith, FindsFirst, FindsFirstWith}
 use Rattle.codes.specs.Sets.{Rising, Before, FirstFailing}
 
 pub none-some : {A : Type 0} (x : A) → None ≡ Some x → ⊥
@@ -94,3 +94,36 @@ only-first test n f t (Some xs) (Some ys) a b =
     (λ l. absurd (true≢false (sym (b .3 xs (a .0) (a .1) l) ∙ a .2)))
     (⊎-elim (λ l. absurd (true≢false (sym (a .3 ys (b .0) (b .1) l) ∙ b .2))) (ap Some))
     (order xs ys (a .0 ∙ sym (b .0)))
+
+cases-same : {A : Type 0} (o r : Option A) (P : Type 0) (Q : A → Type 0) → o ≡ r → Cases r P Q → Cases o P Q
+cases-same o r P Q e h = subst (λ x. Cases x P Q) (sym e) h
+
+pub finds-first : FindsFirst
+finds-first test a zero = λ y l h. absurd (omega arith)
+finds-first test a (suc d) =
+    ⊎-elim
+    (λ t. cases-same _ (Some a) _ _ (cond-true (test a) (Some a) (least test (suc a) d) t) (omega arith, omega arith, t, λ y l h. absurd (omega arith)))
+    (λ f. cases-same _ (least test (suc a) d) _ _ (cond-false (test a) (Some a) (least test (suc a) d) f) (wider (least test (suc a) d) f (finds-first test (suc a) d)))
+    (cases-bool (test a))
+  where
+    wider : (o : Option ℕ) → test a ≡ false
+        → Cases o ((y : ℕ) → suc a ≤ y → y < suc a + d → test y ≡ false) (λ x. (suc a ≤ x) × (x < suc a + d) × (test x ≡ true) × ((y : ℕ) → suc a ≤ y → y < x → test y ≡ false))
+        → Cases o ((y : ℕ) → a ≤ y → y < a + suc d → test y ≡ false) (λ x. (a ≤ x) × (x < a + suc d) × (test x ≡ true) × ((y : ℕ) → a ≤ y → y < x → test y ≡ false))
+    wider None f h = λ y l m. ⊎-elim (λ e. ap test e ∙ f) (λ ne. h y (omega arith) (omega arith)) (cases-eq y a)
+    wider (Some x) f h = (omega arith, omega arith, h .2, λ y l m. ⊎-elim (λ e. ap test e ∙ f) (λ ne. h .3 y (omega arith) m) (cases-eq y a))
+
+pub finds-first-with : FindsFirstWith
+finds-first-with f a zero = λ y l h. absurd (omega arith)
+finds-first-with f a (suc d) = at (f a) refl (finds-first-with f (suc a) d)
+  where
+    wider : (o : Option (ℕ × ℕ)) → f a ≡ None
+        → Cases o ((y : ℕ) → suc a ≤ y → y < suc a + d → f y ≡ None) (λ x. (suc a ≤ x .0) × (x .0 < suc a + d) × (f (x .0) ≡ Some (x .1)) × ((y : ℕ) → suc a ≤ y → y < x .0 → f y ≡ None))
+        → Cases o ((y : ℕ) → a ≤ y → y < a + suc d → f y ≡ None) (λ x. (a ≤ x .0) × (x .0 < a + suc d) × (f (x .0) ≡ Some (x .1)) × ((y : ℕ) → a ≤ y → y < x .0 → f y ≡ None))
+    wider None e h = λ y l m. ⊎-elim (λ q. ap f q ∙ e) (λ ne. h y (omega arith) (omega arith)) (cases-eq y a)
+    wider (Some x) e h = (omega arith, omega arith, h .2, λ y l m. ⊎-elim (λ q. ap f q ∙ e) (λ ne. h .3 y (omega arith) m) (cases-eq y a))
+
+    at : (o : Option ℕ) → f a ≡ o
+        → Cases (leastWith f (suc a) d) ((y : ℕ) → suc a ≤ y → y < suc a + d → f y ≡ None) (λ x. (suc a ≤ x .0) × (x .0 < suc a + d) × (f (x .0) ≡ Some (x .1)) × ((y : ℕ) → suc a ≤ y → y < x .0 → f y ≡ None))
+        → Cases (leastWith f a (suc d)) ((y : ℕ) → a ≤ y → y < a + suc d → f y ≡ None) (λ x. (a ≤ x .0) × (x .0 < a + suc d) × (f (x .0) ≡ Some (x .1)) × ((y : ℕ) → a ≤ y → y < x .0 → f y ≡ None))
+    at (Some j) e later = cases-same _ (Some (a, j)) _ _ (ap (λ o. orOther (mapped (λ j. (a, j)) o) (leastWith f (suc a) d)) e) (omega arith, omega arith, e, λ y l m. absurd (omega arith))
+    at None e later = cases-same _ (leastWith f (suc a) d) _ _ (ap (λ o. orOther (mapped (λ j. (a, j)) o) (leastWith f (suc a) d)) e) (wider (leastWith f (suc a) d) e later)

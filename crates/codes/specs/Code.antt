@@ -40,7 +40,7 @@ Symbols q n w = (length w ≡ n) × ((p : ℕ) → p < n → getD w p 0 < q)
 abbrev pub Codeword : Code → List ℕ → Type 0
 Codeword C w = (u : List ℕ) × Symbols (C .ring .q) (C .k) u × (w ≡ codeword C u)
 
--- the number of places below n where two words differ
+-- the number of places below n where two words differ (a place past a word's end reads as 0)
 abbrev pub distance : ℕ → List ℕ → List ℕ → ℕ
 distance zero v w = 0
 distance (suc p) v w = cond (eqb (getD v p 0) (getD w p 0)) (distance p v w) (suc (distance p v w))
@@ -53,7 +53,7 @@ weight n w = distance n w []
 abbrev pub isCodeword : Code → List ℕ → Bool
 isCodeword C w = eqb (distance (C .n) w (codeword C (take (C .k) w))) 0
 
--- the message of k symbols that reads as the number x in base q, its first symbol leading
+-- the message of k symbols that reads as the number x below q ^ k in base q, its first symbol leading
 abbrev pub message : ℕ → ℕ → ℕ → List ℕ
 message q zero x = []
 message q (suc k) x = (x / q ^ k) % q ∷ message q k x
@@ -71,7 +71,7 @@ abbrev pub source : ℕ → (ℕ → ℕ) → ℕ → ℕ
 source zero σ s = 0
 source (suc p) σ s = cond (eqb (σ p) s) p (source p σ s)
 
--- the word that σ takes v to: its symbol at σ p is v's symbol at p
+-- the word that a permutation σ takes v to: its symbol at σ p is v's symbol at p
 abbrev pub moved : ℕ → (ℕ → ℕ) → List ℕ → List ℕ
 moved n σ v = map (λ s. getD v (source n σ s) 0) (counting 0 n)
 

@@ -2,7 +2,6 @@
 use mathlib.Core.Bool.{Bool, _||_, not}
 use Prim.Native.Nat.{ℕ, _-_, _^_}
 use lib.Dec.{eqb, leb}
-use lib.ListN.{length}
 use Rattle.std.specs.Options.{isSome}
 use Rattle.std.specs.declared.option.Option.{Option}
 use Rattle.codes.specs.Code.{Code, codeword, weight, isCodeword, message, unit, moved}

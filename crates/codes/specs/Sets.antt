@@ -8,7 +8,6 @@ use lib.Dec.{leb}
 use lib.ListN.{length}
 use Rattle.std.specs.declared.option.Option.{Option}
 use Rattle.std.specs.declared.option.Option.the-variants.{Some, None}
-use Rattle.codes.specs.Code.{Clears}
 use Rattle.codes.specs.Search.{firstNot}
 
 -- rising places from f on, each below n
@@ -58,6 +57,6 @@ FirstFailing test n f t None = (ps : List ℕ) → length ps ≡ t → Rising n 
 FirstFailing test n f t (Some ps) =
     (length ps ≡ t) × Rising n f ps × (test ps ≡ false) × ((qs : List ℕ) → length qs ≡ t → Rising n f qs → Before qs ps → test qs ≡ true)
 
--- the enumeration has every set, in dictionary order
+-- The enumeration has every set, in dictionary order: whatever the test, the first set of it that fails is the first of all sets.
 abbrev pub Enumerates : Type 0
 Enumerates = (test : List ℕ → Bool) (n t : ℕ) → FirstFailing test n 0 t (firstNot test (sets t n 0))

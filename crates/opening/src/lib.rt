@@ -58,7 +58,14 @@ pub fn list_of<'a>(n: u8, count: u16, form: Form<'a>) -> Result<FileList<'a>, Fa
 }
 
 // Drafts and tries: a live scheme that keeps its promise, or the first refusal.
-pub fn go_live<K: Kind, L: Permutations>(n: u8, k: u8, t: u8, kind: &K, list: &L, rows: &[u8]) -> Result<Live, Fault>
+pub fn go_live<K: Kind, L: Permutations>(
+    n: u8,
+    k: u8,
+    t: u8,
+    kind: &K,
+    list: &L,
+    rows: &[u8],
+) -> Result<Live, Fault>
     ensures { λ r. ⌜ Cases r (WentLive (plan n k t (ring (now (kind .entry)) .q)) (handing (ring (now (kind .entry))) (now (rows .entry)) (meaning (now (list .entry))))) (λ e. liveRefusal (plan n k t (ring (now (kind .entry)) .q)) (handing (ring (now (kind .entry))) (now (rows .entry)) (meaning (now (list .entry)))) ≡ Some (refusal e)) ⌝ }
 {
     let live = Draft::new(n, k, t, kind)?.trial(kind, list, rows)?;

@@ -122,7 +122,7 @@ pub record Promise (S : Scheme) (trial : Handed) : Type 0 where
   -- and what withdraw answers.
   pub withdraws : (calls : List Call) (answer c : Counts) → History S trial calls c → Withdraws c answer → Counting S trial (blocks S calls) answer
 
--- A draft within its limits and what its trial was handed, which no refusal of the trial meets.
+-- A draft with information and check places, and what its trial was handed, which no refusal of the trial meets.
 pub record Passed (D : Plan) (trial : Handed) : Type 0 where
   pub rules : RingRules (trial .ring)
   pub some : 0 < D .k

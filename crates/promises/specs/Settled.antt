@@ -1,4 +1,4 @@
--- The definitions leave nothing open: a call's input settles what it does, and the blocks settle their tally.
+-- A call of correct has at most one outcome for what it is handed, and blocks have at most one tally.
 use mathlib.Core.Path.{_≡_}
 use mathlib.Core.List.{List}
 use Prim.Native.Nat.{ℕ}

@@ -1,9 +1,8 @@
 -- What a trial answers: the first of refusals 6 to 12 that meets a draft and what the trial is handed, or none.
-use mathlib.Core.Bool.{Bool, cond, _&&_, not}
+use mathlib.Core.Bool.{cond, _&&_, not}
 use Prim.Native.Nat.{ℕ, _-_, _*_}
 use lib.Dec.{eqb, leb}
 use lib.ListN.{length, getD}
-use mathlib.Core.Path.{_≡_}
 use mathlib.Core.List.{List}
 use Rattle.std.specs.Options.{mapped, orOther}
 use Rattle.std.specs.declared.option.Option.{Option}
@@ -15,7 +14,7 @@ use Rattle.codes.specs.Offenders.{badEntry, light, unkept}
 use Rattle.codes.specs.Serviceable.{Serviceable}
 use Rattle.promises.specs.Scheme.{Plan, Handed, codeOf}
 
--- 6: the kind has the draft's q, and the rows are k × (n - k) codes, or not.
+-- 6: a kind whose q is not the draft's, or rows that are not k × (n - k) codes.
 abbrev pub mismatch : Plan → Handed → Option Refusal
 mismatch D h = cond (eqb (h .ring .q) (D .q) && eqb (length (h .rows)) (D .k * (D .n - D .k))) None (Some (refuse 6 0 0))
 
@@ -27,7 +26,7 @@ excess q w = least (λ p. leb q (getD w p 0)) 0 (length w)
 abbrev pub badRow : Plan → Handed → Option Refusal
 badRow D h = mapped (λ p. refuse 7 p 0) (excess (D .q) (h .rows))
 
--- 8: the list has length n and is not empty, or not.
+-- 8: a list whose length is not n, or an empty one.
 abbrev pub badList : Plan → Handed → Option Refusal
 badList D h = cond (eqb (h .list .places) (D .n) && not (eqb (h .list .count) 0)) None (Some (refuse 8 0 0))
 
@@ -55,6 +54,7 @@ unfit D h = orOther (mismatch D h) (orOther (badRow D h) (orOther (badList D h) 
 abbrev pub fails : Plan → Handed → Option Refusal
 fails D h = orOther (lightMessage D h) (orOther (notKept D h) (notCleared D h))
 
+-- The first refusal of a trial, if any.
 abbrev pub verdict : Plan → Handed → Option Refusal
 verdict D h = orOther (unfit D h) (fails D h)
 

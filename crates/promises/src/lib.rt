@@ -10,8 +10,8 @@ pub fn promise_stands() -> u8
     0
 }
 
-// What a call is handed settles what it answers, writes and counts, and blocks settle their tally.
-pub fn definitions_settle() -> u8
+// A call of correct has at most one outcome for what it is handed, and blocks have at most one tally.
+pub fn outcomes_are_single() -> u8
     ensures { λ _. ⌜ Settled × OneTally ⌝ }
 {
     0

@@ -11,7 +11,7 @@ use Rattle.std.proofs.shelf.Counted.{length-map-counting, fill-by-all, getD-map
 use Rattle.std.proofs.shelf.Tests.{cases-eq}
 use Rattle.codes.specs.Code.{Code, codeword, Codeword, distance, Permutation, moved, returned, candidate, Succeeds}
 use Rattle.codes.proofs.Places.{onto, moved-at, moved-only, distance-returned, distance-same, distance-other, distance-mono, distance-zero}
-use Rattle.schemes.specs.Told.{Shuffled}
+use Rattle.schemes.specs.Shuffle.{Shuffled}
 
 -- the arrays after the first p places
 abbrev pub Filled : ℕ → (ℕ → ℕ) → ℕ → List ℕ → List ℕ → Type 0

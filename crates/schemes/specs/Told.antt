@@ -1,9 +1,7 @@
 -- How the values of the code read in the definitions.
 use mathlib.Core.Path.{_≡_}
 use mathlib.Core.List.{List}
-use Prim.Native.Nat.{ℕ, _<_}
-use lib.ListN.{getD}
-use Rattle.codes.specs.Code.{Permutation}
+use Prim.Native.Nat.{ℕ}
 use Rattle.std.specs.declared.option.Option.{Option}
 use Rattle.std.specs.declared.option.Option.the-variants.{Some, None}
 use Rattle.std.specs.declared.result.Result.{Result}
@@ -41,13 +39,6 @@ tallied s = counts (s .tally)
 abbrev pub Tried : Plan → Handed → Result Live Rejected → Type 0
 Tried D h (Ok live) = (verdict D h ≡ None) × (kept live ≡ scheme D h) × (tallied live ≡ none)
 Tried D h (Err x) = (verdict D h ≡ Some (refusal (x .fault))) × (planned (x .draft) ≡ D)
-
--- The arrays hold a permutation σ of n places: where each place goes, and where each comes from.
-pub record Shuffled (n : ℕ) (σ : ℕ → ℕ) (targets sources : List ℕ) : Type 0 where
-  pub permutes : Permutation n σ
-  pub goes : (p : ℕ) → p < n → getD targets p 0 ≡ σ p
-  pub comes : (p : ℕ) → p < n → getD sources (σ p) 0 ≡ p
-  pub within : (s : ℕ) → s < n → getD sources s 0 < n
 
 -- an answer with its refusal
 abbrev pub answered : {A : Type 0} → Result A Fault → Result A Refusal

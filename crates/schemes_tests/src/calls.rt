@@ -36,7 +36,14 @@ fn tally(blocks: u32, clean: u32, mended: u32, lost: u32, symbols: u32) -> Tally
 }
 
 // A live scheme, or what refused it.
-fn live<K: Kind, L: Permutations>(kind: &K, list: &L, n: u8, k: u8, t: u8, rows: &[u8]) -> Result<Live, Fault> {
+fn live<K: Kind, L: Permutations>(
+    kind: &K,
+    list: &L,
+    n: u8,
+    k: u8,
+    t: u8,
+    rows: &[u8],
+) -> Result<Live, Fault> {
     match Draft::new(n, k, t, kind)?.trial(kind, list, rows) {
         Ok(live) => Ok(live),
         Err(rejected) => Err(rejected.fault),
@@ -49,9 +56,15 @@ fn corrections() -> Result<(), Fail> {
     let shifts = Shifts::new(7, 1, 5);
     let mut scheme = live(&bits, &shifts, 7, 4, 1, &HAMMING)?;
     let mut out = [9u8; 7];
-    check_eq(scheme.correct(&bits, &shifts, &HAMMING, &[1, 1, 1, 0, 1, 0, 0], &mut out)?, (1, 4))?;
+    check_eq(
+        scheme.correct(&bits, &shifts, &HAMMING, &[1, 1, 1, 0, 1, 0, 0], &mut out)?,
+        (1, 4),
+    )?;
     check_eq(out, [0, 1, 1, 0, 1, 0, 0])?;
-    check_eq(scheme.correct(&bits, &shifts, &HAMMING, &[0, 1, 1, 0, 1, 0, 0], &mut out)?, (0, 0))?;
+    check_eq(
+        scheme.correct(&bits, &shifts, &HAMMING, &[0, 1, 1, 0, 1, 0, 0], &mut out)?,
+        (0, 0),
+    )?;
     check_eq(scheme.close(), tally(2, 1, 1, 0, 1))?;
     scheme.encode(&bits, &shifts, &HAMMING, &[1, 0, 1, 1], &mut out)?;
     check_eq(out, [1, 0, 1, 1, 1, 0, 0])?;
@@ -62,7 +75,10 @@ fn corrections() -> Result<(), Fail> {
     let threes = Residues::new(3)?;
     let mut scheme = live(&threes, &table, 4, 2, 1, &[2, 2, 2, 1])?;
     let mut out = [9u8; 4];
-    check_eq(scheme.correct(&threes, &table, &[2, 2, 2, 1], &[2, 1, 1, 0], &mut out)?, (1, 2))?;
+    check_eq(
+        scheme.correct(&threes, &table, &[2, 2, 2, 1], &[2, 1, 1, 0], &mut out)?,
+        (1, 2),
+    )?;
     check_eq(out, [1, 1, 1, 0])
 }
 
@@ -82,7 +98,14 @@ fn refusals_leave_buffer_and_scheme() -> Result<(), Fail> {
         scheme.correct(&bits, &shifts, &rows, &short, &mut out),
         scheme.correct(&bits, &shifts, &rows, &[1, 1, 2, 3], &mut out),
     ];
-    let expected: [(u8, u64, u64); 6] = [(13, 0, 0), (13, 0, 0), (13, 0, 0), (13, 0, 0), (14, 0, 0), (15, 2, 0)];
+    let expected: [(u8, u64, u64); 6] = [
+        (13, 0, 0),
+        (13, 0, 0),
+        (13, 0, 0),
+        (13, 0, 0),
+        (14, 0, 0),
+        (15, 2, 0),
+    ];
     for (answer, refusal) in answers.iter().zip(expected.iter()) {
         let Err(fault) = answer else {
             return Err(Fail::new("a call was let through"));
@@ -116,7 +139,10 @@ fn another_list_after_the_trial() -> Result<(), Fail> {
     let entries = [1u8, 1, 1, 1, 0, 1, 2, 3];
     let other = Table::new(4, &entries)?;
     let mut out = [7u8; 4];
-    check_eq(scheme.correct(&bits, &other, &rows, &[1, 1, 0, 1], &mut out)?, (1, 1))?;
+    check_eq(
+        scheme.correct(&bits, &other, &rows, &[1, 1, 0, 1], &mut out)?,
+        (1, 1),
+    )?;
     check_eq(out, [1u8; 4])?;
     let Err(fault) = scheme.correct(&bits, &other, &rows, &[0, 1, 1, 1], &mut out) else {
         return Err(Fail::new("no permutation of the list mends this block"));
@@ -135,9 +161,15 @@ fn kind_and_list_from_outside() -> Result<(), Fail> {
     // 4 times 3 is 4; 3 times 4 would be 6
     scheme.encode(&matrices, &list, &rows, &[4], &mut out)?;
     check_eq(out, [4u8; 4])?;
-    check_eq(scheme.correct(&matrices, &list, &rows, &[5, 4, 4, 4], &mut out)?, (1, 1))?;
+    check_eq(
+        scheme.correct(&matrices, &list, &rows, &[5, 4, 4, 4], &mut out)?,
+        (1, 1),
+    )?;
     check_eq(out, [4u8; 4])?;
-    check_eq(scheme.correct(&matrices, &list, &rows, &[7, 5, 7, 6], &mut out)?, (1, 0))?;
+    check_eq(
+        scheme.correct(&matrices, &list, &rows, &[7, 5, 7, 6], &mut out)?,
+        (1, 0),
+    )?;
     check_eq(out, [7, 5, 7, 5])?;
     check_eq(scheme.close(), tally(2, 0, 2, 0, 2))
 }
@@ -159,8 +191,14 @@ fn full_tally() -> Result<(), Fail> {
     };
     check_eq(told(fault), (16, 0, 0))?;
     check_eq(last, [5u8; 3])?;
-    check_eq(scheme.close(), tally(1_000_000, 500_000, 500_000, 0, 500_000))?;
-    check_eq(scheme.correct(&bits, &shifts, &rows, &[1, 1, 0], &mut last)?, (1, 0))?;
+    check_eq(
+        scheme.close(),
+        tally(1_000_000, 500_000, 500_000, 0, 500_000),
+    )?;
+    check_eq(
+        scheme.correct(&bits, &shifts, &rows, &[1, 1, 0], &mut last)?,
+        (1, 0),
+    )?;
     check_eq(scheme.close(), tally(1, 0, 1, 0, 1))
 }
 
@@ -185,7 +223,13 @@ fn long_run() -> Result<(), Fail> {
             word[6] = 2;
             refused = refused.wrapping_add(1);
         }
-        scheme.encode(&bits, &shifts, &HAMMING, &[word[0], word[1], word[2], word[3]], &mut out)?;
+        scheme.encode(
+            &bits,
+            &shifts,
+            &HAMMING,
+            &[word[0], word[1], word[2], word[3]],
+            &mut out,
+        )?;
         if out == word {
             clean = clean.wrapping_add(1);
         }
@@ -193,5 +237,8 @@ fn long_run() -> Result<(), Fail> {
     }
     let mended = 5_000u32.wrapping_sub(refused).wrapping_sub(clean);
     check(clean > 400 && refused > 50)?;
-    check_eq(scheme.close(), tally(clean.wrapping_add(mended), clean, mended, 0, mended))
+    check_eq(
+        scheme.close(),
+        tally(clean.wrapping_add(mended), clean, mended, 0, mended),
+    )
 }

@@ -78,12 +78,24 @@ fn binary_code() -> Result<(), Fail> {
     let rows = HAMMING;
     check_eq(tried(&bits, &Shifts::new(7, 1, 5), 7, 4, 1, &rows), LIVE)?;
     check_eq(tried(&bits, &Shifts::new(7, 3, 3), 7, 4, 1, &rows), LIVE)?;
-    check_eq(tried(&bits, &Shifts::new(7, 3, 2), 7, 4, 1, &rows), (12, 1, 0))?;
-    check_eq(tried(&bits, &Shifts::new(7, 1, 5), 7, 4, 2, &rows), (10, 1, 0))?;
+    check_eq(
+        tried(&bits, &Shifts::new(7, 3, 2), 7, 4, 1, &rows),
+        (12, 1, 0),
+    )?;
+    check_eq(
+        tried(&bits, &Shifts::new(7, 1, 5), 7, 4, 2, &rows),
+        (10, 1, 0),
+    )?;
     let swap = [0u8, 1, 2, 3, 4, 5, 6, 1, 0, 2, 3, 4, 5, 6];
-    check_eq(tried(&bits, &Table::new(7, &swap)?, 7, 4, 1, &rows), (11, 1, 0))?;
+    check_eq(
+        tried(&bits, &Table::new(7, &swap)?, 7, 4, 1, &rows),
+        (11, 1, 0),
+    )?;
     // 3 places are too few for 2 errors
-    check_eq(tried(&bits, &Shifts::new(3, 1, 3), 3, 1, 2, &[1, 1]), (10, 1, 0))
+    check_eq(
+        tried(&bits, &Shifts::new(3, 1, 3), 3, 1, 2, &[1, 1]),
+        (10, 1, 0),
+    )
 }
 
 #[test]
@@ -96,24 +108,71 @@ fn unfit_for_a_trial() -> Result<(), Fail> {
     };
     check_eq(told(rejected.fault), (6, 0, 0))?;
     check_eq(tried(&bits, &shifts, 7, 4, 1, &[1, 1]), (6, 0, 0))?;
-    check_eq(tried(&bits, &shifts, 7, 4, 1, &[1, 1, 0, 0, 1, 2, 1, 1, 1, 1, 0, 3]), (7, 5, 0))?;
-    check_eq(tried(&bits, &Shifts::new(6, 1, 5), 7, 4, 1, &HAMMING), (8, 0, 0))?;
-    check_eq(tried(&bits, &Shifts::new(7, 1, 0), 7, 4, 1, &HAMMING), (8, 0, 0))?;
+    check_eq(
+        tried(
+            &bits,
+            &shifts,
+            7,
+            4,
+            1,
+            &[1, 1, 0, 0, 1, 2, 1, 1, 1, 1, 0, 3],
+        ),
+        (7, 5, 0),
+    )?;
+    check_eq(
+        tried(&bits, &Shifts::new(6, 1, 5), 7, 4, 1, &HAMMING),
+        (8, 0, 0),
+    )?;
+    check_eq(
+        tried(&bits, &Shifts::new(7, 1, 0), 7, 4, 1, &HAMMING),
+        (8, 0, 0),
+    )?;
     let twice = [0u8, 1, 2, 3, 4, 5, 6, 0, 1, 2, 3, 4, 5, 4];
-    check_eq(tried(&bits, &Table::new(7, &twice)?, 7, 4, 1, &HAMMING), (9, 1, 6))?;
+    check_eq(
+        tried(&bits, &Table::new(7, &twice)?, 7, 4, 1, &HAMMING),
+        (9, 1, 6),
+    )?;
     let large = [0u8, 1, 7, 3, 4, 5, 5];
-    check_eq(tried(&bits, &Table::new(7, &large)?, 7, 4, 1, &HAMMING), (9, 0, 2))
+    check_eq(
+        tried(&bits, &Table::new(7, &large)?, 7, 4, 1, &HAMMING),
+        (9, 0, 2),
+    )
 }
 
 #[test]
 fn other_rings_and_lists() -> Result<(), Fail> {
     let ternary = [0u8, 1, 2, 3, 1, 2, 0, 3, 2, 0, 1, 3];
-    check_eq(tried(&Residues::new(3)?, &Table::new(4, &ternary)?, 4, 2, 1, &[2, 2, 2, 1]), LIVE)?;
-    check_eq(tried(&TwoPower::new(2)?, &Shifts::new(3, 1, 3), 3, 1, 1, &[2, 3]), LIVE)?;
-    check_eq(tried(&Residues::new(4)?, &Shifts::new(3, 1, 3), 3, 1, 1, &[2, 3]), (10, 2, 0))?;
+    check_eq(
+        tried(
+            &Residues::new(3)?,
+            &Table::new(4, &ternary)?,
+            4,
+            2,
+            1,
+            &[2, 2, 2, 1],
+        ),
+        LIVE,
+    )?;
+    check_eq(
+        tried(&TwoPower::new(2)?, &Shifts::new(3, 1, 3), 3, 1, 1, &[2, 3]),
+        LIVE,
+    )?;
+    check_eq(
+        tried(&Residues::new(4)?, &Shifts::new(3, 1, 3), 3, 1, 1, &[2, 3]),
+        (10, 2, 0),
+    )?;
     // products that do not commute, and a list that the product does not know
     let matrices = Triangular::new();
-    check_eq(tried(&matrices, &Reversed::new(4), 4, 1, 1, &[3, 1, 3]), LIVE)?;
-    check_eq(tried(&matrices, &Reversed::new(4), 4, 1, 1, &[3, 1, 1]), (11, 1, 0))?;
-    check_eq(tried(&matrices, &Reversed::new(4), 4, 1, 1, &[2, 1, 2]), (10, 2, 0))
+    check_eq(
+        tried(&matrices, &Reversed::new(4), 4, 1, 1, &[3, 1, 3]),
+        LIVE,
+    )?;
+    check_eq(
+        tried(&matrices, &Reversed::new(4), 4, 1, 1, &[3, 1, 1]),
+        (11, 1, 0),
+    )?;
+    check_eq(
+        tried(&matrices, &Reversed::new(4), 4, 1, 1, &[2, 1, 2]),
+        (10, 2, 0),
+    )
 }

@@ -8,7 +8,7 @@ pub record Ring : Type 0 where
   pub neg : ℕ → ℕ
   pub mul : ℕ → ℕ → ℕ
 
--- The ring rules, for codes below q. Products need not commute, and no code but 1 and its like need have an inverse.
+-- The ring rules, for codes below q. Products need not commute, and codes need not have an inverse for products.
 pub record RingRules (R : Ring) : Type 0 where
   pub low : 2 ≤ R .q
   pub high : R .q ≤ 16

@@ -4,7 +4,7 @@ ghost use Prim.Native.Nat.{ℕ, _+_, _-_, _*_, _<_, _≤_};
 ghost use lib.ListN.{length, getD, take};
 ghost use Rattle.std.specs.Options.{Cases};
 ghost use Rattle.codes.specs.Code.{code, codeword, Symbols, distance, Permutation, candidate, Succeeds, First};
-ghost use Rattle.schemes.specs.Told.{Shuffled};
+ghost use Rattle.schemes.specs.Shuffle.{Shuffled};
 use crate::scheme::words::check_symbol;
 use crate::scheme::words::is_codeword;
 use lists::Permutations;
@@ -176,10 +176,11 @@ fn attempt<K: Kind, L: Permutations>(
     )
 }
 
-// The distance and the number of the first attempt that succeeds, with its word in `word`, which any attempt may change.
+// The distance and the number of the first of m attempts that succeeds, with its word in `word`, which any attempt may change.
 fn first_success<K: Kind, L: Permutations>(
     kind: &K,
     list: &L,
+    m: u16,
     n: usize,
     k: usize,
     t: u8,
@@ -187,6 +188,7 @@ fn first_success<K: Kind, L: Permutations>(
     v: &[u8],
     word: &mut [u8],
 ) -> Option<(u8, u16)>
+    requires all { ⌜ m ≡ meaning (now list) .count ⌝ }
     requires order { ⌜ (k < n) × (n ≤ 64) × (t ≤ 5) ⌝ }
     requires size { ⌜ length (now rows) ≡ k * (n - k) ⌝ }
     requires long { ⌜ n ≡ meaning (now list) .places ⌝ }
@@ -196,7 +198,6 @@ fn first_success<K: Kind, L: Permutations>(
         (λ x. (x .1 < meaning (now (list .entry)) .count) × First (code (ring (now (kind .entry))) n k (now (rows .entry))) t (meaning (now (list .entry)) .target) (now (v .entry)) (x .1)
         × (now (word .exit) ≡ candidate (code (ring (now (kind .entry))) n k (now (rows .entry))) (meaning (now (list .entry)) .target (x .1)) (now (v .entry))) × (x .0 ≡ distance n (now (v .entry)) (now (word .exit)))) ⌝ }
 {
-    let m = list.count();
     let mut i = 0;
     let found = loop {
         if i >= m {
@@ -231,7 +232,7 @@ fn correct_by<K: Kind, L: Permutations>(
         (λ x. (x .1 < meaning (now (list .entry)) .count) × First (code (ring (now (kind .entry))) n k (now (rows .entry))) t (meaning (now (list .entry)) .target) (now (v .entry)) (x .1)
         × (now (out .exit) ≡ candidate (code (ring (now (kind .entry))) n k (now (rows .entry))) (meaning (now (list .entry)) .target (x .1)) (now (v .entry))) × (x .0 ≡ distance n (now (v .entry)) (now (out .exit)))) ⌝ }
 {
-    let found = first_success(kind, list, n, k, t, rows, v, word);
+    let found = first_success(kind, list, list.count(), n, k, t, rows, v, word);
     if let Some(x) = found {
         out.copy_from_slice(word);
         return Some(x);

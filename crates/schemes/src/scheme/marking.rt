@@ -27,6 +27,14 @@ fn run_from(set: Places, j: usize, t: usize, first: u8) -> Places
     next
 }
 
+// Whether a place, with those after it in a row, can rise by one and stay below n.
+fn can_rise(place: u8, after: usize, n: u8) -> bool
+    requires { ⌜ after ≤ 5 ⌝ }
+    ensures { λ r. ⌜ When r (place + after < n) (n ≤ place + after) ⌝ }
+{
+    place as usize + after < n as usize
+}
+
 // The next set of t places below n in dictionary order, or none after the last.
 fn successor(set: Places, t: usize, n: u8) -> Option<Places>
     requires { ⌜ t ≤ 5 ⌝ ∗ ⌜ n ≤ 64 ⌝ }
@@ -35,7 +43,7 @@ fn successor(set: Places, t: usize, n: u8) -> Option<Places>
     let mut j = t;
     while j > 0 {
         j -= 1;
-        if (set[j] as usize) + (t - j) < n as usize {
+        if can_rise(set[j], t - j, n) {
             return Some(run_from(set, j, t, set[j] + 1));
         }
     }

@@ -24,7 +24,7 @@ fn message(x: u32, q: u8, k: usize) -> [u8; 16]
 }
 
 // The smallest non-zero message, as a number, whose codeword has at most `limit` non-zero symbols; `count` is the number of messages.
-pub(crate) fn first_light<K: Kind>(
+fn first_light<K: Kind>(
     kind: &K,
     n: usize,
     k: usize,
@@ -45,4 +45,21 @@ pub(crate) fn first_light<K: Kind>(
         }
     }
     None
+}
+
+// The smallest non-zero message whose codeword is too light for t errors; `count` is the number of messages.
+pub(crate) fn light_message<K: Kind>(
+    kind: &K,
+    n: usize,
+    k: usize,
+    rows: &[u8],
+    t: u8,
+    count: u32,
+) -> Option<u32>
+    requires order { ⌜ (k < n) × (n ≤ 64) × (k ≤ 16) ⌝ }
+    requires size { ⌜ length (now rows) ≡ k * (n - k) ⌝ }
+    requires all { ⌜ count ≡ ring (now kind) .q ^ k ⌝ }
+    ensures { λ r. ⌜ r ≡ light (code (ring (now (kind .entry))) n k (now (rows .entry))) (2 * t) ⌝ }
+{
+    first_light(kind, n, k, rows, 2 * t as usize, count)
 }

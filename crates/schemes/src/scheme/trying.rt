@@ -17,7 +17,7 @@ use crate::scheme::drafting::message_count;
 use crate::scheme::marking::first_uncleared;
 use crate::scheme::permuting::bad_entry;
 use crate::scheme::permuting::unkept;
-use crate::scheme::searching::first_light;
+use crate::scheme::searching::light_message;
 use crate::scheme::words::first_excess;
 use faults::Fault;
 use lists::Permutations;
@@ -65,7 +65,7 @@ impl Draft {
         let Some(count) = message_count(self.q, self.k) else {
             return unreachable();
         };
-        if let Some(message) = first_light(kind, n, k, rows, 2 * self.t as usize, count) {
+        if let Some(message) = light_message(kind, n, k, rows, self.t, count) {
             return Err(Fault::LightCodeword { message });
         }
         if let Some((number, unit)) = unkept(kind, list, n, k, rows) {
@@ -91,7 +91,12 @@ impl Draft {
     }
 
     // The answer of a trial.
-    fn decide<K: Kind, L: Permutations>(self, kind: &K, list: &L, rows: &[u8]) -> Result<Live, Rejected>
+    fn decide<K: Kind, L: Permutations>(
+        self,
+        kind: &K,
+        list: &L,
+        rows: &[u8],
+    ) -> Result<Live, Rejected>
         ensures { λ r. ⌜ Tried (planned self) (handing (ring (now (kind .entry))) (now (rows .entry)) (meaning (now (list .entry)))) r ⌝ }
     {
         match self.examine(kind, list, rows) {
@@ -111,7 +116,12 @@ impl Draft {
     }
 
     // Puts the draft on trial: a live scheme with an empty tally, or the same draft with the first refusal.
-    pub fn trial<K: Kind, L: Permutations>(self, kind: &K, list: &L, rows: &[u8]) -> Result<Live, Rejected>
+    pub fn trial<K: Kind, L: Permutations>(
+        self,
+        kind: &K,
+        list: &L,
+        rows: &[u8],
+    ) -> Result<Live, Rejected>
         ensures tried { λ r. ⌜ Tried (planned self) (handing (ring (now (kind .entry))) (now (rows .entry)) (meaning (now (list .entry)))) r ⌝ }
         ensures promised { λ r. ⌜ made r (λ live. Promise (kept live) (handing (ring (now (kind .entry))) (now (rows .entry)) (meaning (now (list .entry))))) ⌝ }
         ensures exactly { λ r. ⌜ (unfit (planned self) (handing (ring (now (kind .entry))) (now (rows .entry)) (meaning (now (list .entry)))) ≡ None → Exactly (isOk r ≡ true) (Serves (planned self) (handing (ring (now (kind .entry))) (now (rows .entry)) (meaning (now (list .entry)))))) ⌝ }

@@ -27,9 +27,10 @@ module _ (D : Plan) (h : Handed) (rules : RingRules (h .ring)) (some : 0 < D .k)
 
   exactly-by : (r : Result Live Rejected) → Tried D h r → unfit D h ≡ None → Exactly (isOk r ≡ true) (Serves D h)
   exactly-by (Ok live) (none, _, _) fit = ((λ _. passes-serves D h fit rules some (omega arith) (second-none (unfit D h) (fails D h) none)), (λ _. refl))
-  exactly-by (Err x) (found, _) fit =
-      ( (λ e. absurd (false≢true e))
-      , (λ serves. absurd (none-some _ (sym (both-none (unfit D h) (fails D h) fit (serves-passes D h fit rules some (omega arith) serves)) ∙ found))))
+  exactly-by (Err x) (found, _) fit = (
+    (λ e. absurd (false≢true e)),
+    (λ serves. absurd (none-some _ (sym (both-none (unfit D h) (fails D h) fit (serves-passes D h fit rules some (omega arith) serves)) ∙ found))),
+  )
 
 pub returns : need.returns
 returns g c =

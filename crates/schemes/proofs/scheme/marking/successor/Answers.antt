@@ -15,8 +15,8 @@ loop-j-holds c =
     let e : length (take t set) ≡ t = length-take-le t set (omega arith) in
     (omega arith, subst (λ (l : List ℕ). Last (c .args .n) l) (sym (drop-all t (take t set) (omega arith))) tt)
 
-pub returns-then-set-j : need.returns-then-set-j
-returns-then-set-j c =
+pub returns-then-can-rise : need.returns-then-can-rise
+returns-then-can-rise c =
     let t = c .args .t in
     let set = c .args .set in
     let new = c .run-from .result in
@@ -25,6 +25,7 @@ returns-then-set-j c =
     let f : length (take t new) ≡ t = length-take-le t new (omega arith) in
     let r : getD (take t set) j 0 ≡ getD set j 0 = getD-take t set j 0 (omega arith) in
     let back : c .loop-j .j ≡ suc j = omega arith in
+    let rises = c .if-can-rise .ensures tt in
     next-at (c .args .n) j (take t set) (take t new) (omega arith) (omega arith)
     (λ k h. getD-take t new k 0 (omega arith) ∙ c .run-from .ensures .kept k h ∙ sym (getD-take t set k 0 (omega arith)))
     (λ k a b. getD-take t new k 0 (omega arith) ∙ c .run-from .ensures .numbered k a (omega arith) ∙ omega arith)
@@ -38,4 +39,5 @@ loop-j-again c =
     let j = c .loop-j .j in
     let e : length (take t set) ≡ t = length-take-le t set (omega arith) in
     let r : getD (take t set) (j - 1) 0 ≡ getD set (j - 1) 0 = getD-take t set (j - 1) 0 (omega arith) in
+    let stays = c .if-can-rise .ensures tt in
     (omega arith, last-more (c .args .n) j (take t set) (omega arith) (omega arith) (c .loop-j .inv .1) (omega arith))

@@ -1,5 +1,5 @@
 use Rattle.promises.proofs.Definite.{settled, one-tally}
-use Rattle.promises.proofs.definitions_settle.Needs as need
+use Rattle.promises.proofs.outcomes_are_single.Needs as need
 
 pub returns : need.returns
 returns c = (settled, one-tally)
