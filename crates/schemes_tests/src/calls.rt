@@ -180,8 +180,8 @@ fn full_tally() -> Result<(), Fail> {
     let shifts = Shifts::new(3, 1, 3);
     let rows = [1u8, 1];
     let mut scheme = live(&bits, &shifts, 3, 1, 1, &rows)?;
-    let mut out = [0u8; 3];
     for _ in 0..500_000 {
+        let mut out = [0u8; 3];
         let _ = scheme.correct(&bits, &shifts, &rows, &[1, 1, 0], &mut out);
         let _ = scheme.correct(&bits, &shifts, &rows, &[0, 0, 0], &mut out);
     }
@@ -202,6 +202,19 @@ fn full_tally() -> Result<(), Fail> {
     check_eq(scheme.close(), tally(1, 0, 1, 0, 1))
 }
 
+// Seven bits of a number, the lowest first.
+fn bits_of(x: u32) -> [u8; 7] {
+    [
+        (x & 1) as u8,
+        (x >> 1 & 1) as u8,
+        (x >> 2 & 1) as u8,
+        (x >> 3 & 1) as u8,
+        (x >> 4 & 1) as u8,
+        (x >> 5 & 1) as u8,
+        (x >> 6 & 1) as u8,
+    ]
+}
+
 // A run of blocks from a simple generator, with counts kept beside it: of 7 bits, 16 words are codewords and all others are one place off.
 #[test]
 fn long_run() -> Result<(), Fail> {
@@ -211,14 +224,11 @@ fn long_run() -> Result<(), Fail> {
     let mut seed = 12345u32;
     let mut clean = 0u32;
     let mut refused = 0u32;
-    let mut word = [0u8; 7];
-    let mut out = [0u8; 7];
     for _ in 0..5_000 {
         seed = seed.wrapping_mul(1_103_515_245).wrapping_add(12_345);
         let x = seed >> 16;
-        for (p, symbol) in word.iter_mut().enumerate() {
-            *symbol = (x >> p & 1) as u8;
-        }
+        let mut out = [0u8; 7];
+        let mut word = bits_of(x);
         if x % 64 == 0 {
             word[6] = 2;
             refused = refused.wrapping_add(1);
