@@ -3,6 +3,7 @@
 use mending::answer;
 use std::io;
 use std::io::Read;
+use std::io::Write;
 
 // At most so many bytes of the input are read.
 const LIMIT: usize = 49_935;
@@ -24,5 +25,5 @@ fn main(rt: LibcRuntime) -> io::Result<()> {
     }
     input.truncate(len);
     let text = answer(heap, input.as_slice())?;
-    rt.print(text.as_str())
+    rt.stdout().write_all(text.as_slice())
 }
