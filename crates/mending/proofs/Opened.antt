@@ -20,7 +20,7 @@ use Rattle.mending.specs.Printed.{schemeRefusal, Reported, Printed}
 
 -- what holds of a kind and a list that mean what the contents name holds of the contents
 pub at-contents : (P : Plan → Handed → Type 0) (x : Contents) (R : Ring) (M : Meaning) → R ≡ ringOf (x .family) (x .base) → M ≡ meaningOf (x .n) (x .count) (x .list)
-  → P (plan (x .n) (x .k) (x .t) (R .q)) (handing R (x .rows) M) → P (planOf x) (handedOf x)
+    → P (plan (x .n) (x .k) (x .t) (R .q)) (handing R (x .rows) M) → P (planOf x) (handedOf x)
 at-contents P x R M e f p =
     subst (λ (N : Meaning). P (planOf x) (handing (ringOf (x .family) (x .base)) (x .rows) N)) f
     (subst (λ (Q : Ring). P (plan (x .n) (x .k) (x .t) (Q .q)) (handing Q (x .rows) M)) e p)
@@ -37,7 +37,7 @@ module _ (input : List ℕ) (x : Contents) (accepted : fileRefusal (schemeFile i
       (ap contentsRefusal (sym is) ∙ after-none _ _ _ kind (after-none _ _ _ list (at-contents (λ D h. liveRefusal D h ≡ o) x R M ring meaning e)))
 
   pub report-of : (S : Scheme) (text : List ℕ) → liveRefusal (plan (x .n) (x .k) (x .t) (R .q)) (handing R (x .rows) M) ≡ None
-    → S ≡ scheme (plan (x .n) (x .k) (x .t) (R .q)) (handing R (x .rows) M) → Reported S (handing R (x .rows) M) (blockBytes input) text → Printed input text
+      → S ≡ scheme (plan (x .n) (x .k) (x .t) (R .q)) (handing R (x .rows) M) → Reported S (handing R (x .rows) M) (blockBytes input) text → Printed input text
   report-of S text none e report =
       subst (λ (o : Option Refusal). Cases o (Reported (scheme (planOf (contentsOf (schemeFile input))) (handedOf (contentsOf (schemeFile input)))) (handedOf (contentsOf (schemeFile input))) (blockBytes input) text) (λ r. text ≡ refusedLine r))
       (sym (refusal-of None none))

@@ -46,7 +46,7 @@ module _ (S : Scheme) (h : Handed) (bytes : List ℕ) where
       subst (Faithful S h) (sym e) ((λ _. subst (Same S h) (sym (added .handed)) same-self), session-faithful i past earlier before s)
 
   clear : (a b c : Bool) (o : Option ℕ) → a ≡ true → c ≡ true
-    → not (isSome (cond a (cond (b && c) (mapped (λ (p : ℕ). refuse 15 p 0) o) (Some (refuse 14 0 0))) (Some (refuse 13 0 0)))) ≡ (b && not (isSome o))
+      → not (isSome (cond a (cond (b && c) (mapped (λ (p : ℕ). refuse 15 p 0) o) (Some (refuse 14 0 0))) (Some (refuse 13 0 0)))) ≡ (b && not (isSome o))
   clear true true true None e f = refl
   clear true true true (Some x) e f = refl
   clear true false true o e f = refl
@@ -54,7 +54,7 @@ module _ (S : Scheme) (h : Handed) (bytes : List ℕ) where
   clear false b c o e f = absurd (true≢false (sym e))
 
   formed-is : fits S h ≡ true → (x : Correcting) → x .handed ≡ h → length (x .before) ≡ S .n → (came : ℕ)
-    → formed S came x ≡ (whole (S .q) (S .n) (x .block) && ltb came 1000000)
+      → formed S came x ≡ (whole (S .q) (S .n) (x .block) && ltb came 1000000)
   formed-is fit x same room came =
       ap (λ b. b && ltb came 1000000)
       (clear (fits S (x .handed)) (eqb (length (x .block)) (S .n)) (eqb (length (x .before)) (S .n)) (excess (S .q) (x .block)) (ap (fits S) same ∙ fit) (eq-eqb _ _ room))
@@ -72,7 +72,7 @@ module _ (S : Scheme) (h : Handed) (bytes : List ℕ) where
   session-none = (refl, refl, refl)
 
   pub session-more : (i : ℕ) (calls : List Call) (c after : Counts) (before text : List ℕ) → Session S h bytes i calls c before → (added : Added S h (i + 1) (piece (S .n) bytes i) c after before text)
-    → Session S h bytes (i + 1) (correct (added .call) ∷ calls) after text
+      → Session S h bytes (i + 1) (correct (added .call) ∷ calls) after text
   session-more i calls c after before text s added =
       subst (λ (j : ℕ). Session S h bytes j (correct (added .call) ∷ calls) after text) (let z : suc i ≡ i + 1 = omega arith in z) (calls, c, before, s, (added, refl))
 

@@ -69,5 +69,13 @@ pub fn answer(heap: Global, input: &[u8]) -> Result<Vec<u8>, AllocError>
         Ok(live) => live,
         Err(fault) => return refused(heap, fault),
     };
-    session(heap, &kind, &list, scheme.rows, scheme.n as usize, live, block_bytes(input))
+    session(
+        heap,
+        &kind,
+        &list,
+        scheme.rows,
+        scheme.n as usize,
+        live,
+        block_bytes(input),
+    )
 }

@@ -43,7 +43,13 @@ fn put_symbols(text: &mut Vec<u8>, symbols: &[u8]) -> Result<(), AllocError>
 }
 
 // Appends what became of a block.
-fn put_fate(heap: Global, text: &mut Vec<u8>, block: &[u8], answer: Result<(u8, u16), Fault>, word: &[u8]) -> Result<(), AllocError>
+fn put_fate(
+    heap: Global,
+    text: &mut Vec<u8>,
+    block: &[u8],
+    answer: Result<(u8, u16), Fault>,
+    word: &[u8],
+) -> Result<(), AllocError>
     ensures { λ r. ⌜ made r (λ _. vec-items (now (text .exit)) ≡ vec-items (now (text .entry)) ++ fate (now (block .entry)) (answered answer) (now (word .entry))) ⌝ }
 {
     match answer {
@@ -71,7 +77,14 @@ fn put_fate(heap: Global, text: &mut Vec<u8>, block: &[u8], answer: Result<(u8, 
 }
 
 // Appends the line of a block: its number, and what became of it.
-pub(crate) fn put_line(heap: Global, text: &mut Vec<u8>, number: u64, block: &[u8], answer: Result<(u8, u16), Fault>, word: &[u8]) -> Result<(), AllocError>
+pub(crate) fn put_line(
+    heap: Global,
+    text: &mut Vec<u8>,
+    number: u64,
+    block: &[u8],
+    answer: Result<(u8, u16), Fault>,
+    word: &[u8],
+) -> Result<(), AllocError>
     ensures { λ r. ⌜ made r (λ _. vec-items (now (text .exit)) ≡ vec-items (now (text .entry)) ++ (decimal number ++ (fate (now (block .entry)) (answered answer) (now (word .entry)) ++ codes "\n"))) ⌝ }
 {
     put_number(heap, text, number)?;

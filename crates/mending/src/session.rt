@@ -71,7 +71,17 @@ fn add<K: Kind, L: Permutations>(
     ensures added { λ r. ⌜ made r (λ _. Added (kept (now (live .entry))) (handing (ring (now (kind .entry))) (now (rows .entry)) (meaning (now (list .entry)))) number (now (block .entry)) (tallied (now (live .entry))) (tallied (now (live .exit))) (vec-items (now (text .entry))) (vec-items (now (text .exit)))) ⌝ }
 {
     let mut out = [0u8; 64];
-    add_into(heap, text, number, live, kind, list, rows, block, &mut out[0..n])
+    add_into(
+        heap,
+        text,
+        number,
+        live,
+        kind,
+        list,
+        rows,
+        block,
+        &mut out[0..n],
+    )
 }
 
 // The lines of all blocks of the bytes, and the total line.
@@ -92,7 +102,17 @@ pub(crate) fn session<K: Kind, L: Permutations>(
     let mut scheme = live;
     let mut text = Vec::new(heap);
     for i in 0..pieces(bytes, n) {
-        add(heap, &mut text, i as u64 + 1, &mut scheme, kind, list, rows, n, piece(bytes, n, i))?;
+        add(
+            heap,
+            &mut text,
+            i as u64 + 1,
+            &mut scheme,
+            kind,
+            list,
+            rows,
+            n,
+            piece(bytes, n, i),
+        )?;
     }
     let tally = scheme.close();
     put_total(heap, &mut text, tally)?;

@@ -53,5 +53,5 @@ returns c =
     let S = kept (c .in-Ok-go-live .live) in
     made-weaker (c .session .result) (λ text. Reported S (handing R (x .rows) M) (c .block-bytes .result .now) (vec-items text)) (λ text. Printed input (vec-items text))
     (λ text report. report-of input x accepted is (kind .0) (list .0) R M (kind .1) (list .1) S (vec-items text) (live .clear) (live .keeps)
-      (subst (λ (b : List ℕ). Reported S (handing R (x .rows) M) b (vec-items text)) (c .block-bytes .ensures) report))
+    (subst (λ (b : List ℕ). Reported S (handing R (x .rows) M) b (vec-items text)) (c .block-bytes .ensures) report))
     (c .session .ensures)

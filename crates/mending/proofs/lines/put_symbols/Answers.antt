@@ -14,7 +14,7 @@ more : (before text text′ symbols : List ℕ) (p x : ℕ) → p < length symbo
 more before text text′ symbols p x h e d f =
     f ∙ ap (λ t. t ++ x ∷ []) e ∙ append-assoc before (map digit (take p symbols)) (x ∷ [])
     ∙ ap (λ w. before ++ w)
-      (ap (λ y. map digit (take p symbols) ++ y ∷ []) d ∙ sym (map-append digit (take p symbols) (getD symbols p 0 ∷ [])) ∙ ap (map digit) (sym (take-more symbols p 0 h)))
+    (ap (λ y. map digit (take p symbols) ++ y ∷ []) d ∙ sym (map-append digit (take p symbols) (getD symbols p 0 ∷ [])) ∙ ap (map digit) (sym (take-more symbols p 0 h)))
 
 pub loop-p-again : need.loop-p-again
 loop-p-again c =
