@@ -34,7 +34,7 @@ use symbols::ResiduesKind;
 $3
 CODE
     (cd "$work" && rt dev misuse 2>&1) > "$work/out"
-    said=$(grep -m1 "crates/misuse/src/lib.rt.*error" "$work/out" | sed 's/.*src\/lib.rt/lib.rt/')
+    said=$(grep -m1 "crates/misuse/src/lib.rt.*error" "$work/out" | sed 's|^.*misuse/src/lib.rt\(:[0-9]*:[0-9]*: error\)|lib.rt\1|')
     case "$said" in
         *"$2"*) echo "$1: refused: $said" ;;
         *) echo "$1: NOT refused as expected"; cat "$work/out"; exit 1 ;;
@@ -45,7 +45,7 @@ try "correct with a draft" "unknown-method" \
 'pub fn early(mut draft: Draft, kind: &Residues, list: &Shifts, block: &[u8], out: &mut [u8]) {
     let _ = draft.correct(kind, list, &[1, 1], block, out);
 }'
-try "go on after withdraw" "E0382" \
+try "go on after withdraw" "e0382" \
 'pub fn late(live: Live, kind: &Residues, list: &Shifts, message: &[u8], out: &mut [u8]) {
     let (_draft, _tally) = live.withdraw();
     let _ = live.encode(kind, list, &[1, 1], message, out);

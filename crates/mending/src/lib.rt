@@ -5,7 +5,7 @@ ghost use Prim.Native.Nat.{ℕ, _+_, _-_, _*_, _/_, _<_, _≤_};
 ghost use lib.ListN.{length};
 ghost use Rattle.std.specs.Of.Vec.{vec-items};
 ghost use Rattle.std.specs.Vec.{made};
-ghost use Rattle.mending.specs.Input.{schemeFile, blockBytes};
+ghost use Rattle.mending.specs.Input.{fileSize, schemeFile, blockBytes};
 ghost use Rattle.mending.specs.Printed.{Printed};
 use files::read;
 use lines::refused;
@@ -21,6 +21,14 @@ use std::alloc::Global;
 mod lines;
 mod session;
 
+// The length of the scheme file: two bytes, the high one first.
+fn file_size(input: &[u8]) -> usize
+    requires { ⌜ 2 ≤ length (now input) ⌝ }
+    ensures { λ r. ⌜ (r ≡ fileSize (now (input .entry))) × (r < 65536) ⌝ }
+{
+    input[0] as usize * 256 + input[1] as usize
+}
+
 // The scheme file of an input: two bytes give its length, the high one first. It is shorter if the input ends, and empty if the length is missing.
 pub fn scheme_file(input: &[u8]) -> &[u8]
     ensures { λ r. ⌜ now r ≡ schemeFile (now (input .entry)) ⌝ }
@@ -28,7 +36,7 @@ pub fn scheme_file(input: &[u8]) -> &[u8]
     if input.len() < 2 {
         return &input[0..0];
     }
-    let size = input[0] as usize * 256 + input[1] as usize;
+    let size = file_size(input);
     if size > input.len() - 2 {
         return &input[2..];
     }
@@ -42,7 +50,7 @@ pub fn block_bytes(input: &[u8]) -> &[u8]
     if input.len() < 2 {
         return &input[0..0];
     }
-    let start = 2 + input[0] as usize * 256 + input[1] as usize;
+    let start = 2 + file_size(input);
     if start > input.len() {
         return &input[0..0];
     }

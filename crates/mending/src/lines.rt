@@ -42,6 +42,36 @@ fn put_symbols(text: &mut Vec<u8>, symbols: &[u8]) -> Result<(), AllocError>
     Ok(())
 }
 
+fn put_clean(text: &mut Vec<u8>, word: &[u8]) -> Result<(), AllocError>
+    ensures { λ r. ⌜ made r (λ _. vec-items (now (text .exit)) ≡ vec-items (now (text .entry)) ++ (codes " clean 0 " ++ map digitOf (now (word .entry)))) ⌝ }
+{
+    text.extend_from_slice(b" clean 0 ")?;
+    put_symbols(text, word)
+}
+
+fn put_mended(heap: Global, text: &mut Vec<u8>, d: u8, word: &[u8]) -> Result<(), AllocError>
+    ensures { λ r. ⌜ made r (λ _. vec-items (now (text .exit)) ≡ vec-items (now (text .entry)) ++ (codes " mended " ++ (decimal d ++ (codes " " ++ map digitOf (now (word .entry)))))) ⌝ }
+{
+    text.extend_from_slice(b" mended ")?;
+    put_number(heap, text, d as u64)?;
+    text.extend_from_slice(b" ")?;
+    put_symbols(text, word)
+}
+
+fn put_lost(text: &mut Vec<u8>, block: &[u8]) -> Result<(), AllocError>
+    ensures { λ r. ⌜ made r (λ _. vec-items (now (text .exit)) ≡ vec-items (now (text .entry)) ++ (codes " lost - " ++ map digitOf (now (block .entry)))) ⌝ }
+{
+    text.extend_from_slice(b" lost - ")?;
+    put_symbols(text, block)
+}
+
+fn put_refused(heap: Global, text: &mut Vec<u8>, number: u8) -> Result<(), AllocError>
+    ensures { λ r. ⌜ made r (λ _. vec-items (now (text .exit)) ≡ vec-items (now (text .entry)) ++ (codes " refused " ++ decimal number)) ⌝ }
+{
+    text.extend_from_slice(b" refused ")?;
+    put_number(heap, text, number as u64)
+}
+
 // Appends what became of a block.
 fn put_fate(
     heap: Global,
@@ -55,22 +85,17 @@ fn put_fate(
     match answer {
         Ok((d, _)) => {
             if d == 0 {
-                text.extend_from_slice(b" clean 0 ")?;
+                put_clean(text, word)
             } else {
-                text.extend_from_slice(b" mended ")?;
-                put_number(heap, text, d as u64)?;
-                text.extend_from_slice(b" ")?;
+                put_mended(heap, text, d, word)
             }
-            put_symbols(text, word)
         }
         Err(fault) => {
             let number = fault.number();
             if number == 17 {
-                text.extend_from_slice(b" lost - ")?;
-                put_symbols(text, block)
+                put_lost(text, block)
             } else {
-                text.extend_from_slice(b" refused ")?;
-                put_number(heap, text, number as u64)
+                put_refused(heap, text, number)
             }
         }
     }

@@ -1,6 +1,6 @@
 // The session over the blocks of an input, from a new live scheme to the total line.
 ghost use mathlib.Core.Path.{_≡_};
-ghost use Prim.Native.Nat.{ℕ, _+_, _-_, _*_, _/_, _%_, _<_, _≤_};
+ghost use Prim.Native.Nat.{ℕ, _+_, _-_, _*_, _/_, _%_, _^_, _<_, _≤_};
 ghost use lib.ListN.{length};
 ghost use Rattle.std.specs.Of.Vec.{vec-items};
 ghost use Rattle.std.specs.Vec.{made};
@@ -54,11 +54,11 @@ fn add_into<K: Kind, L: Permutations>(
     put_line(heap, text, number, block, answer, out)
 }
 
-// Corrects a block, and appends its line.
+// Corrects block i, counted from 0, and appends its line, where it is counted from 1.
 fn add<K: Kind, L: Permutations>(
     heap: Global,
     text: &mut Vec<u8>,
-    number: u64,
+    i: usize,
     live: &mut Live,
     kind: &K,
     list: &L,
@@ -66,15 +66,16 @@ fn add<K: Kind, L: Permutations>(
     n: usize,
     block: &[u8],
 ) -> Result<(), AllocError>
+    requires few { ⌜ i + 1 < 2 ^ 64 ⌝ }
     requires size { ⌜ (n ≡ kept (now live) .n) × (n ≤ 64) ⌝ }
     ensures keeps { λ r. ⌜ kept (now (live .exit)) ≡ kept (now (live .entry)) ⌝ }
-    ensures added { λ r. ⌜ made r (λ _. Added (kept (now (live .entry))) (handing (ring (now (kind .entry))) (now (rows .entry)) (meaning (now (list .entry)))) number (now (block .entry)) (tallied (now (live .entry))) (tallied (now (live .exit))) (vec-items (now (text .entry))) (vec-items (now (text .exit)))) ⌝ }
+    ensures added { λ r. ⌜ made r (λ _. Added (kept (now (live .entry))) (handing (ring (now (kind .entry))) (now (rows .entry)) (meaning (now (list .entry)))) (i + 1) (now (block .entry)) (tallied (now (live .entry))) (tallied (now (live .exit))) (vec-items (now (text .entry))) (vec-items (now (text .exit)))) ⌝ }
 {
     let mut out = [0u8; 64];
     add_into(
         heap,
         text,
-        number,
+        i as u64 + 1,
         live,
         kind,
         list,
@@ -105,7 +106,7 @@ pub(crate) fn session<K: Kind, L: Permutations>(
         add(
             heap,
             &mut text,
-            i as u64 + 1,
+            i,
             &mut scheme,
             kind,
             list,

@@ -16,5 +16,5 @@ returns-then-start-input c = sym (drop-all (2 + fileSize (c .args .input .now)) 
 pub returns : need.returns
 returns c =
     let input = c .args .input .now in
-    let at = 2 + getD input 0 0 * 256 + getD input 1 0 in
+    let at = 2 + c .file-size-start .result in
     take-all (length input - at) (drop at input) (omega (arith, length-drop at input)) ∙ ap (λ (m : ℕ). drop m input) (let z : at ≡ 2 + fileSize input = omega arith in z)
