@@ -104,7 +104,58 @@ fn scattered(seed: u32, n: u8, errors: u8) -> (u32, u32) {
     (mask, next)
 }
 
-// Error patterns on a binary code: up to 23 places every pattern of at most t errors, else a sample of them; and samples with more errors.
+// A codeword drawn by a random number, with the places of a mask turned.
+fn drawn(book: &Book, seed: u32, mask: u32) -> [u8; 64] {
+    turned(book.word((seed >> 4) as usize % book.count().max(1)), mask)
+}
+
+// Every pattern of at most t errors on a binary code.
+fn every_pattern<K: Kind, L: Permutations>(
+    live: &mut Live,
+    kind: &K,
+    list: &L,
+    rows: &[u8],
+    book: &Book,
+    t: u8,
+    found: &mut Found,
+) {
+    let mut seed = 1u32;
+    for mask in 0..1u32 << (book.places() % 32) {
+        if mask.count_ones() <= t as u32 {
+            seed = random(seed);
+            let block = drawn(book, seed, mask);
+            one(live, kind, list, rows, book, t, &block, found);
+            found.near = found.near.saturating_add(1);
+        }
+    }
+}
+
+// Random patterns on a binary code: 100 of at most t errors, then 100 of about t + 1 to t + 4.
+fn samples<K: Kind, L: Permutations>(
+    live: &mut Live,
+    kind: &K,
+    list: &L,
+    rows: &[u8],
+    book: &Book,
+    t: u8,
+    found: &mut Found,
+) {
+    let mut seed = 1u32;
+    for i in 0..200u32 {
+        let more = if i < 100 { 0 } else { 1 + (i % 4) as u8 };
+        let (mask, next) = scattered(seed, book.places(), t.saturating_add(more));
+        seed = random(next);
+        let block = drawn(book, seed, mask);
+        one(live, kind, list, rows, book, t, &block, found);
+        if mask.count_ones() <= t as u32 {
+            found.near = found.near.saturating_add(1);
+        } else {
+            found.far = found.far.saturating_add(1);
+        }
+    }
+}
+
+// Error patterns on a binary code: random ones, and every one of at most t errors where the code has at most 23 places.
 pub fn patterns<K: Kind, L: Permutations>(
     live: &mut Live,
     kind: &K,
@@ -114,51 +165,9 @@ pub fn patterns<K: Kind, L: Permutations>(
     t: u8,
 ) -> Found {
     let mut found = NOTHING;
-    let n = book.places();
-    let mut seed = 1u32;
-    if n <= 23 {
-        for mask in 0..1u32 << n {
-            if mask.count_ones() <= t as u32 {
-                seed = random(seed);
-                let word = book.word((seed >> 4) as usize % book.count().max(1));
-                one(
-                    live,
-                    kind,
-                    list,
-                    rows,
-                    book,
-                    t,
-                    &turned(word, mask),
-                    &mut found,
-                );
-                found.near = found.near.saturating_add(1);
-            }
-        }
-    }
-    for i in 0..200u32 {
-        let errors = if i < 100 {
-            t
-        } else {
-            t.saturating_add(1 + (i % 4) as u8)
-        };
-        let (mask, next) = scattered(seed, n, errors);
-        seed = random(next);
-        let word = book.word((seed >> 4) as usize % book.count().max(1));
-        one(
-            live,
-            kind,
-            list,
-            rows,
-            book,
-            t,
-            &turned(word, mask),
-            &mut found,
-        );
-        if mask.count_ones() <= t as u32 {
-            found.near = found.near.saturating_add(1);
-        } else {
-            found.far = found.far.saturating_add(1);
-        }
+    samples(live, kind, list, rows, book, t, &mut found);
+    if book.places() <= 23 {
+        every_pattern(live, kind, list, rows, book, t, &mut found);
     }
     found
 }

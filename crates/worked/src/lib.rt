@@ -81,8 +81,8 @@ pub fn worked_schemes() -> Schemes
             1,
             1,
             0,
-            3,
-            3,
+            3, // three shifts
+            3, // of step 3
             1,
             1,
             0,
@@ -109,8 +109,8 @@ pub fn worked_schemes() -> Schemes
             1,
             1,
             0,
-            2,
-            3,
+            2, // two shifts
+            3, // by 3 places
             1,
             1,
             0,
