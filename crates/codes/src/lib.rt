@@ -1,5 +1,8 @@
 // Codes, permutations of places and sets of places: their definitions (specs/) and theorems (proofs/), over every ring of symbols.
 // No decoder lives here: what the calls of a scheme do is in the crate `schemes`.
+
+#![tactic(auto)]
+
 ghost use Rattle.codes.specs.Search.{FindsFirst, FindsFirstWith};
 ghost use Rattle.codes.specs.Serviceable.{Decoding};
 ghost use Rattle.codes.specs.Sets.{Enumerates};

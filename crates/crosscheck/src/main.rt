@@ -1,5 +1,8 @@
 // Another decoder, written apart from the product, and what both make of many blocks.
 // It goes through all codewords and takes the nearest. The program prints what it compared; a difference shows in the last column.
+
+#![tactic(auto)]
+
 use brute::{Book, cyclic_rows};
 use compare::{every_block, patterns};
 use faults::Fault;

@@ -1,5 +1,8 @@
 // Refusals: one fault type for the whole product.
 // Here live the fault cases, their numbers and their places. No rule that decides a refusal lives here.
+
+#![tactic(auto)]
+
 ghost use Rattle.std.specs.Prelude.{◌≡◌, Some};
 ghost use Rattle.faults.specs.Refusal.{refusal, shown_as};
 

@@ -1,6 +1,9 @@
 // Scheme files: the bytes in which a scheme is kept.
 // Here live the reader, the writer and what they refuse. Whether check rows hold symbols, whether a table holds
 // permutations and whether the scheme stands its trial is not asked here.
+
+#![tactic(auto)]
+
 ghost use Rattle.std.specs.Prelude.{◌≡◌, ◌+◌, ◌*◌, ◌<◌, ◌≤◌, true, ◌++◌, length, take, Some, None, MatchResult};
 ghost use Rattle.faults.specs.Refusal.{refusal};
 ghost use Rattle.files.specs.Layout.{value_bytes, table_bytes, head_bytes, bytes_of, fields_at, value_size, rows_size, table_size, rows_start, file_length, list_from, contents_of};

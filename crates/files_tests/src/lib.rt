@@ -1,6 +1,8 @@
 // Tests of scheme files: every refusal, every header byte at its limits and past them, every form, the greatest file.
 // For tests alone: no crate of the product builds on this one.
 
+#![tactic(auto)]
+
 // A scheme over residues modulo 2 with n = 7, k = 4, t = 1 and five shifts by 1.
 pub const SHIFTS: [u8; 26] = [
     0x50, 0x44, 0x53, 0, 1, 0, 2, 7, 4, 1, 1, 0, 5, 1, 1, 1, 0, 0, 1, 1, 1, 1, 1, 1, 0, 1,

@@ -1,4 +1,7 @@
 // Kinds of symbol that the product does not know, written against its interface alone. For tests: nothing of the product may use them.
+
+#![tactic(auto)]
+
 ghost use Rattle.std.specs.Prelude.{◌≡◌};
 ghost use Rattle.foreign_kinds.specs.Triangular.{triangular};
 ghost use Rattle.foreign_kinds.specs.Products.{triangular_rules};

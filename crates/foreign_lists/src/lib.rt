@@ -1,5 +1,8 @@
 // A list that is not the product's, written against the same trait, and the tests of all lists at their edges.
 // For tests alone: no crate of the product builds on this one.
+
+#![tactic(auto)]
+
 ghost use Rattle.std.specs.Prelude.{◌≡◌};
 ghost use Rattle.foreign_lists.specs.Reversal.{reversed, reversed_bounds};
 ghost use Rattle.foreign_lists.specs.Rules.{Numbering, Plain-shifts, Plain-tables};

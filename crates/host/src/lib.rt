@@ -1,5 +1,8 @@
 // The call for a host program: a scheme file, a block and an output in, one number out.
 // Here live the order of the steps and the number. What each step does and refuses is in the crates below.
+
+#![tactic(auto)]
+
 ghost use Rattle.std.specs.Result.{MatchResult};
 ghost use Rattle.faults.specs.Refusal.{refusal};
 ghost use Rattle.host.specs.Hosted.{Stops, Mends, Says, HostAnswers};

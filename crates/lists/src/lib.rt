@@ -1,6 +1,9 @@
 // Permutation lists: the trait that every list meets, and the lists of the product, which are a table of bytes,
 // the shifts and the multiplier. A list only tells its length, count and targets: whether an entry is a permutation,
 // or keeps a code, is not decided here.
+
+#![tactic(auto)]
+
 ghost use Rattle.std.specs.Prelude.{◌≡◌, ℕ, ◌+◌, ◌*◌, ◌%◌, ◌^◌, ◌<◌, length, MatchResult, slice_index};
 ghost use Rattle.faults.specs.Refusal.{refusal, refuse};
 ghost use Rattle.lists.specs.Bounded.{table_bounds, shifts_bounds, multiplied_bounds};

@@ -1,5 +1,8 @@
 // mend: reads a scheme file and received blocks from standard input, and prints what became of each block.
 // It only reads and prints; the work is in the crate `mending`.
+
+#![tactic(auto)]
+
 use mending::answer;
 use std::io;
 use std::io::{Read, Write};

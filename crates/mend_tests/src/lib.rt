@@ -1,4 +1,7 @@
 // Tests of what mend prints, over a table of inputs.
+
+#![tactic(auto)]
+
 #[cfg(test)]
 mod tests;
 

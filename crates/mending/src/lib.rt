@@ -1,5 +1,8 @@
 // The work of the mend program: from the bytes of an input to the text that is printed.
 // Here live the cutting of an input and the session over its blocks; the lines are in `lines`. Reading and printing live in the program.
+
+#![tactic(auto)]
+
 ghost use Rattle.std.specs.Prelude.{◌≡◌, ℕ, ◌+◌, ◌-◌, ◌*◌, ◌/◌, ◌<◌, ◌≤◌, length, IfOk};
 ghost use Rattle.mending.specs.Input.{file_size, scheme_file, block_bytes};
 ghost use Rattle.mending.specs.Printed.{Printed};

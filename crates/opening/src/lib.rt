@@ -1,5 +1,8 @@
 // From a scheme file to a live scheme: the kind and the list that the file names, its draft, its trial.
 // Here live the kinds and lists of files, as one type each. What a file's bytes are is in `files`, what a trial asks in `schemes`.
+
+#![tactic(auto)]
+
 ghost use Rattle.std.specs.Prelude.{◌≡◌, Some, None, MatchResult};
 ghost use Rattle.faults.specs.Refusal.{refusal};
 ghost use Rattle.files.specs.Held.{contents, family_number, list_of};

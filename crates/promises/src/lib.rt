@@ -1,5 +1,8 @@
 // What drafts, trials, live schemes and their calls mean, and what a scheme that has passed its trial promises over every run of calls.
 // Definitions (specs/) and theorems (proofs/) only: the calls themselves are in the crate `schemes`, whose contracts cite these definitions.
+
+#![tactic(auto)]
+
 ghost use Rattle.promises.specs.Promise.{Law};
 ghost use Rattle.promises.specs.Settled.{Settled, OneTally};
 

@@ -1,4 +1,7 @@
 // Tests of schemes through their public calls, with kinds and lists of the product and from outside it.
+
+#![tactic(auto)]
+
 #[cfg(test)]
 mod calls;
 #[cfg(test)]

@@ -1,5 +1,8 @@
 // Kinds of symbol: finite rings whose elements are the codes 0 to q - 1, one code in a byte.
 // Here live the interface of kinds and the two families of the product. Nothing here knows of words, codes or lists.
+
+#![tactic(auto)]
+
 ghost use Rattle.std.specs.Prelude.{◌≡◌, ℕ, ◌+◌, ◌-◌, ◌*◌, ◌/◌, ◌%◌, ◌^◌, ◌<◌, ◌≤◌, MatchResult};
 ghost use Rattle.faults.specs.Refusal.{refusal, refuse};
 ghost use Rattle.symbols.specs.Ring.{Ring, RingRules, plus, minus, times, added, residues};

@@ -1,5 +1,8 @@
 // Entries for the benchmark in `bench`: the trial of a scheme file, and many corrections by one live scheme.
 // Nothing of the product builds on this crate, and no promise stands here; the calls that are timed are those of the product.
+
+#![tactic(auto)]
+
 use faults::Fault;
 use lists::Permutations;
 use opening::{go_live, kind_of, list_of};

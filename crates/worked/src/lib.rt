@@ -1,5 +1,8 @@
 // Worked schemes: scheme files and blocks with what becomes of them, proved together in one statement.
 // Only data lives here; the statement is by the definitions that the contracts of the calls use.
+
+#![tactic(auto)]
+
 ghost use Rattle.worked.specs.Worked.{Worked};
 
 #[cfg(test)]
