@@ -7,8 +7,8 @@ use Rattle.files.proofs.Sizes.{length_bytes, fits_length, laid}
 use Rattle.files.proofs.Around.{written}
 use Rattle.files.proofs.fill.Goals as goal
 
-pub lay-rows-end-requires : goal.lay-rows-end-requires
-lay-rows-end-requires c =
+pub lay-rows_end-requires : goal.lay-rows_end-requires
+lay-rows_end-requires c =
     let x = contents c.args.scheme.now in
     let size = c.requires.1.1.1 ∙ ap file_length c.requires.0 in
     omega (arith, length_bytes x, fits_length x c.requires.1.1.0, size)
@@ -17,16 +17,16 @@ pub returns : goal.returns
 returns c =
     let x = contents c.args.scheme.now in
     let size = c.requires.1.1.1 ∙ ap file_length c.requires.0 in
-    let e : c.header-bytes-head.result ≡ head_bytes (fields_of x) =
-    c.header-bytes-head.ensures ∙ ap head_bytes c.requires.0
+    let e : c.header_bytes-head.result ≡ head_bytes (fields_of x) =
+    c.header_bytes-head.ensures ∙ ap head_bytes c.requires.0
     in
     let r = c.lay-at.ensures in
-    written x c.lay-table.new.out (ap wrong_field (sym c.requires.0) ∙ c.requires.1.0) c.requires.1.1.0
+    written x c.lay_table.new.out (ap wrong_field (sym c.requires.0) ∙ c.requires.1.0) c.requires.1.1.0
     (laid c.args.out.now (head_bytes (fields_of x)) (value_bytes x.list) x.rows (table_bytes x.list)
-    c.lay-at.new.out c.lay-values-values-end.new.out c.lay-rows-end.new.out c.lay-table.new.out
-    c.lay-at.result c.lay-values-values-end.result c.lay-rows-end.result c.lay-table.result
+    c.lay-at.new.out c.lay_values-values_end.new.out c.lay-rows_end.new.out c.lay_table.new.out
+    c.lay-at.result c.lay_values-values_end.result c.lay-rows_end.result c.lay_table.result
     (cc)
-    c.lay-values-values-end.ensures.1
-    c.lay-rows-end.ensures.1
-    c.lay-table.ensures.1
+    c.lay_values-values_end.ensures.1
+    c.lay-rows_end.ensures.1
+    c.lay_table.ensures.1
     (omega (arith, length_bytes x, fits_length x c.requires.1.1.0, size, ap length e)))

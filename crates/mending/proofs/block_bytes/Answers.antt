@@ -12,5 +12,5 @@ returns-then-start-input c = sym (drop_all (2 + file_size c.args.input.now) c.ar
 pub returns : goal.returns
 returns c =
     let input = c.args.input.now in
-    let at = 2 + c.file-size-start.result in
+    let at = 2 + c.file_size-start.result in
     take_all (length input - at) (drop at input) (omega (arith, length-drop at input)) ∙ ap (λ (m : ℕ). drop m input) (let z : at ≡ 2 + file_size input = omega arith in z)

@@ -5,8 +5,8 @@ use Rattle.symbols.proofs.Rows.{written_more, written_all}
 use Rattle.symbols.proofs.Packing.{code_small, sum_is}
 use Rattle.symbols.proofs.add_polynomials.Goals as goal
 
-pub multiple-at-requires : goal.multiple-at-requires
-multiple-at-requires c = code_small c.args.w (get_or c.args.row.now c.loop-j.j 0) (omega arith)
+pub multiple_at-requires : goal.multiple_at-requires
+multiple_at-requires c = code_small c.args.w (get_or c.args.row.now c.loop-j.j 0) (omega arith)
 
 pub loop-j-preserved : goal.loop-j-preserved
 loop-j-preserved c =
@@ -15,8 +15,8 @@ loop-j-preserved c =
     let r = get_or c.args.row.now c.loop-j.j 0 in
     written_more (two_power w) c.args.factor c.args.row.now c.args.sums.now c.loop-j.sums c.loop-j.j _
     (omega arith) c.loop-j.invariant
-    (sum_is w ((1 * 2 ^ w) % 256) c.args.factor s r c.multiples-of-multiples.result c.multiple-at.result (omega arith) (omega arith)
-    (one_shl w 8 (omega arith)) c.multiples-of-multiples.ensures c.multiple-at.ensures)
+    (sum_is w ((1 * 2 ^ w) % 256) c.args.factor s r c.multiples_of-multiples.result c.multiple_at.result (omega arith) (omega arith)
+    (one_shl w 8 (omega arith)) c.multiples_of-multiples.ensures c.multiple_at.ensures)
 
 pub returns : goal.returns
 returns c =

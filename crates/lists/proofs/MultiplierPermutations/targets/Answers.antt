@@ -17,5 +17,5 @@ loop-p-preserved g c =
     there.2 ∙ ap (M.target (x % c.count-m.result)) c.loop-p.invariant.1
     ∙ ap₂ (λ (a b : ℕ). M.target (x % a) ((l.g ^ (x / a) * p) % b)) m n in (
       asked_more (multiplied l.g l.r M) x p c.in-Some.to c.loop-p.places (omega arith) (omega arith) is c.loop-p.invariant.0,
-      c.around-at.ensures ∙ ap₂ (λ (a b : ℕ). (a + b) % c.length-n.result) c.loop-p.invariant.1 c.power-times-power.ensures ∙ multiple_more power p c.length-n.result,
+      c.around-at.ensures ∙ ap₂ (λ (a b : ℕ). (a + b) % c.length-n.result) c.loop-p.invariant.1 c.power_times-power.ensures ∙ multiple_more power p c.length-n.result,
     )

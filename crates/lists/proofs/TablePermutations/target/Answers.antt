@@ -21,5 +21,5 @@ returns c =
     let l = c.args.self.now in
     let M = table l.n l.part.now in
     let within : c.args.i < length l.part.now / l.n = row_within c.args.i l.n (length l.part.now) (omega arith) c.if-self-first.false in
-    let at : c.byte-at.result ≡ min (get_or l.part.now (c.args.i * l.n + c.args.p) 0) 255 = omega (arith, c.byte-at.ensures) in
+    let at : c.byte_at.result ≡ min (get_or l.part.now (c.args.i * l.n + c.args.p) 0) 255 = omega (arith, c.byte_at.ensures) in
     ap Some at ∙ sym (reply_within M c.args.i c.args.p (omega arith) (omega arith))

@@ -34,4 +34,4 @@ returns g c =
     let end : c.loop-i.i ≡ pieces S.n bytes = (let z : c.loop-i.i ≡ c.pieces-i-end.result = omega arith in z) ∙ c.pieces-i-end.ensures ∙ ap (λ (m : ℕ). pieces m bytes) c.requires.size.0 in
     reported S h bytes c.requires.promise calls (tallied c.loop-i.scheme) (vec_items c.loop-i.text) _
     (subst (λ (i : ℕ). Session S h bytes i calls (tallied c.loop-i.scheme) (vec_items c.loop-i.text)) end s)
-    (c.in-ok-put-total.ensures ∙ ap (λ (x : Counts). vec_items c.loop-i.text ++ total x) c.close-tally.ensures.does.0)
+    (c.in-ok-put_total.ensures ∙ ap (λ (x : Counts). vec_items c.loop-i.text ++ total x) c.close-tally.ensures.does.0)

@@ -21,8 +21,8 @@ returns-then-self-ge-FULL g c = record {
   keeps = refl;
 }
 
-pub correct-into-requires : goal.correct-into-requires
-correct-into-requires g c =
+pub correct_into-requires : goal.correct_into-requires
+correct_into-requires g c =
     let S : Scheme = kept c.args.self.now in
     let h : Handed = handing (g.K.Kind.ring c.args.kind.now) c.args.rows.now (g.L.Permutations.meaning c.args.list.now) in
     let o = c.in-ok-check.ensures.0 in
@@ -38,7 +38,7 @@ returns-in-default g c =
     let (a, b, m, e, f) = measured S h S.n c.args.block.now c.args.out.now o in
     let (none, same) = c.in-default.ensures in
     record {
-      does = step_loses _ _ _ _ o (omega arith) (record { none_succeeds = λ i l. none i (omega (arith, m)); answers = refl; word = same; tally = c.with-lost-self.ensures.tally });
+      does = step_loses _ _ _ _ o (omega arith) (record { none_succeeds = λ i l. none i (omega (arith, m)); answers = refl; word = same; tally = c.with_lost-self.ensures.tally });
       keeps = refl;
     }
 
@@ -51,6 +51,6 @@ returns g c =
     let (within, first, word, far) = c.in-Some.ensures in
     record {
       does = step_finds _ _ _ _ c.in-Some.i o (omega arith)
-          (record { within = omega (arith, m); first = first; word = word; answers = ap (λ (x : ℕ). Ok (x, c.in-Some.i)) far; tally = c.with-corrected-self.ensures.tally ∙ ap (λ d. found d (counts c.args.self.now.tally)) far });
+          (record { within = omega (arith, m); first = first; word = word; answers = ap (λ (x : ℕ). Ok (x, c.in-Some.i)) far; tally = c.with_corrected-self.ensures.tally ∙ ap (λ d. found d (counts c.args.self.now.tally)) far });
       keeps = refl;
     }

@@ -25,8 +25,8 @@ pub returns-then-changed-t : goal.returns-then-changed-t
 returns-then-changed-t g c =
     let C : Code = code (g.K.Kind.ring c.args.kind.now) c.args.n c.args.k c.args.rows.now in
     let u = take c.args.k c.args.word.now in
-    let at : get_or c.check-symbols-checks.result c.loop-j.j 0 ≡ get_or (codeword C u) (c.args.k + c.loop-j.j) 0 = checked C u c.args.word.now c.args.k c.loop-j.j _ (c.check-symbols-checks.ensures c.loop-j.j (omega arith)) refl (length-take-le c.args.k c.args.word.now (omega arith)) (omega arith) in
-    setting_over c.args.word.now (codeword C u) c.args.t c.loop-j.changed (c.args.k + c.loop-j.j) (get_or c.check-symbols-checks.result c.loop-j.j 0) c.args.n c.loop-j.word (omega arith) at c.if-word-k.true (omega arith) c.loop-j.invariant
+    let at : get_or c.check_symbols-checks.result c.loop-j.j 0 ≡ get_or (codeword C u) (c.args.k + c.loop-j.j) 0 = checked C u c.args.word.now c.args.k c.loop-j.j _ (c.check_symbols-checks.ensures c.loop-j.j (omega arith)) refl (length-take-le c.args.k c.args.word.now (omega arith)) (omega arith) in
+    setting_over c.args.word.now (codeword C u) c.args.t c.loop-j.changed (c.args.k + c.loop-j.j) (get_or c.check_symbols-checks.result c.loop-j.j 0) c.args.n c.loop-j.word (omega arith) at c.if-word-k.true (omega arith) c.loop-j.invariant
 
 pub loop-j-preserved : goal.loop-j-preserved
 loop-j-preserved g c =
@@ -35,13 +35,13 @@ loop-j-preserved g c =
     let v = c.args.word.now in
     let p = c.args.k + c.loop-j.j in
     let w = codeword C u in
-    let at : get_or c.check-symbols-checks.result c.loop-j.j 0 ≡ get_or w p 0 = checked C u v c.args.k c.loop-j.j _ (c.check-symbols-checks.ensures c.loop-j.j (omega arith)) refl (length-take-le c.args.k v (omega arith)) (omega arith) in
+    let at : get_or c.check_symbols-checks.result c.loop-j.j 0 ≡ get_or w p 0 = checked C u v c.args.k c.loop-j.j _ (c.check_symbols-checks.ensures c.loop-j.j (omega arith)) refl (length-take-le c.args.k v (omega arith)) (omega arith) in
     subst (Setting v w c.args.t c.if-word-k.changed c.if-word-k.word) (let z : p + 1 ≡ c.args.k + (c.loop-j.j + 1) = omega arith in z)
     (elim c.if-word-k.branch [
       | then-word-k+else-changed-t y ↦
           subst (λ x. Setting v w c.args.t x c.if-word-k.word (p + 1)) (sym y.changed-is)
           (subst (λ x. Setting v w c.args.t (c.loop-j.changed + 1) x (p + 1)) (sym y.word-is)
-          (setting_more v w c.args.t c.loop-j.changed p (get_or c.check-symbols-checks.result c.loop-j.j 0) c.loop-j.word (omega arith) at y.if-word-k.true (omega (arith, y.if-changed-t.false)) c.loop-j.invariant))
+          (setting_more v w c.args.t c.loop-j.changed p (get_or c.check_symbols-checks.result c.loop-j.j 0) c.loop-j.word (omega arith) at y.if-word-k.true (omega (arith, y.if-changed-t.false)) c.loop-j.invariant))
       | else-word-k y ↦
           subst (λ x. Setting v w c.args.t x c.if-word-k.word (p + 1)) (sym y.changed-is)
           (subst (λ x. Setting v w c.args.t c.loop-j.changed x (p + 1)) (sym y.word-is)

@@ -9,8 +9,8 @@ grown q i x e = ap (λ (y : ℕ). y * q) e ∙ sym (pow-suc q i) ∙ ap (λ (j :
 pub loop-i-init : goal.loop-i-init
 loop-i-init c = (sym (pow-zero c.args.q), omega arith)
 
-pub overflow-mul-count : goal.overflow-mul-count
-overflow-mul-count c = let b = mul-le c.loop-i.count c.args.q 65536 255 (omega arith) (omega arith) in search rules
+pub overflow_mul-count : goal.overflow_mul-count
+overflow_mul-count c = let b = mul-le c.loop-i.count c.args.q 65536 255 (omega arith) (omega arith) in search rules
 
 pub returns-then-count-gt-MOST : goal.returns-then-count-gt-MOST
 returns-then-count-gt-MOST c =

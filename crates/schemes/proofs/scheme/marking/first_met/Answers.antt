@@ -11,9 +11,9 @@ pub loop-set-init : goal.loop-set-init
 loop-set-init c =
     let n = c.args.n in
     let t = c.args.t in
-    let new = c.run-from-set.result in
+    let new = c.run_from-set.result in
     let e : length (take t new) ≡ t = length-take-le t new (omega arith) in
-    let r : take t new ≡ run 0 t = run_is 0 (take t new) t e (λ i h. get_or-take t new i 0 h ∙ c.run-from-set.ensures.numbered i (omega arith) h ∙ omega arith) in
+    let r : take t new ≡ run 0 t = run_is 0 (take t new) t e (λ i h. get_or-take t new i 0 h ∙ c.run_from-set.ensures.numbered i (omega arith) h ∙ omega arith) in
     let P = Missed c.args.masks.now c.args.m in
     (omega arith, subst (SetOf n t) (sym r) (first_set n t (omega arith)), subst (Seen n t P) (sym r) (seen_none n t P))
 
@@ -21,7 +21,7 @@ pub returns-in-default : goal.returns-in-default
 returns-in-default c =
     let v = c.loop-set.invariant in
     let P = Missed c.args.masks.now c.args.m in
-    let h = subst (λ (b : ℕ). (i : ℕ) × (i < c.args.m) × (bit_and (get_or c.args.masks.now i 0) b ≡ 0)) c.number-of-number.ensures c.if-not-missed.ensures in
+    let h = subst (λ (b : ℕ). (i : ℕ) × (i < c.args.m) × (bit_and (get_or c.args.masks.now i 0) b ≡ 0)) c.number_of-number.ensures c.if-not-missed.ensures in
     let k = c.skip.ensures in
     let seen = k.seen h v.2 in
     seen_all c.args.n c.args.t P (take c.args.t c.skip.result) c.in-default.ensures k.set seen.0 seen.1
@@ -36,7 +36,7 @@ loop-set-preserved c =
     let v = c.loop-set.invariant in
     let s = c.in-Some.ensures in
     let P = Missed c.args.masks.now c.args.m in
-    let h = subst (λ (b : ℕ). (i : ℕ) × (i < c.args.m) × (bit_and (get_or c.args.masks.now i 0) b ≡ 0)) c.number-of-number.ensures c.if-not-missed.ensures in
+    let h = subst (λ (b : ℕ). (i : ℕ) × (i < c.args.m) × (bit_and (get_or c.args.masks.now i 0) b ≡ 0)) c.number_of-number.ensures c.if-not-missed.ensures in
     let k = c.skip.ensures in
     let seen = k.seen h v.2 in
     let old = take c.args.t c.skip.result in

@@ -11,8 +11,8 @@ loop-j-init c =
     let xs = take t c.args.set in
     (omega arith, sym (ap bits (drop_all t xs (omega (arith, c.requires.1.1.0)))))
 
-pub overflow-shl-sum : goal.overflow-shl-sum
-overflow-shl-sum c =
+pub overflow_shl-sum : goal.overflow_shl-sum
+overflow_shl-sum c =
     let t = c.args.t in
     let j = c.loop-j.j in
     let xs = take t c.args.set in

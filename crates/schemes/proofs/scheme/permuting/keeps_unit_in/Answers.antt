@@ -10,11 +10,11 @@ image_is C σ j m message word image l e f h = h ∙ ap (λ u. moved C.n σ u) (
 pub unreachable-requires : goal.unreachable-requires
 unreachable-requires g c = c.in-default.ensures c.requires.permutation
 
-pub is-codeword-requires : goal.is-codeword-requires
-is-codeword-requires g c =
+pub is_codeword-requires : goal.is_codeword-requires
+is_codeword-requires g c =
     let C : Code = code (g.K.Kind.ring c.args.kind.now) c.args.n c.args.k c.args.rows.now in
     let σ = (g.L.Permutations.meaning c.args.list.now).target c.args.i in
-    let is = image_is C σ c.args.j _ _ _ _ c.requires.room.0 c.write-unit.ensures c.encode-into.ensures c.in-Some.ensures.moves in
+    let is = image_is C σ c.args.j _ _ _ _ c.requires.room.0 c.write_unit.ensures c.encode_into.ensures c.in-Some.ensures.moves in
     record {
       order = c.requires.order.1;
       few = c.requires.order.2;
@@ -26,6 +26,6 @@ pub returns : goal.returns
 returns g c =
     let C : Code = code (g.K.Kind.ring c.args.kind.now) c.args.n c.args.k c.args.rows.now in
     let σ = (g.L.Permutations.meaning c.args.list.now).target c.args.i in
-    let is = image_is C σ c.args.j _ _ _ _ c.requires.room.0 c.write-unit.ensures c.encode-into.ensures c.in-Some.ensures.moves in
+    let is = image_is C σ c.args.j _ _ _ _ c.requires.room.0 c.write_unit.ensures c.encode_into.ensures c.in-Some.ensures.moves in
     let word = subst (Symbols C.ring.q C.n) (sym is) (unit_moved C (g.met.K.Kind.rules c.args.kind.now) c.requires.order.0 (omega arith) σ c.requires.permutation c.args.j) in
-    decides_codeword C (omega arith) _ word c.is-codeword.result c.is-codeword.ensures ∙ ap (is_codeword C) is
+    decides_codeword C (omega arith) _ word c.is_codeword.result c.is_codeword.ensures ∙ ap (is_codeword C) is

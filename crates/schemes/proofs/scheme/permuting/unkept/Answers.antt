@@ -4,8 +4,8 @@ use Rattle.codes.specs.Offenders.{unkept_unit}
 use Rattle.codes.proofs.Found.{least_with-some, least_with-none}
 use Rattle.schemes.proofs.scheme.permuting.unkept.Goals as goal
 
-pub unkept-unit-requires : goal.unkept-unit-requires
-unkept-unit-requires g c = let p = c.requires.permutations c.loop-i.i (omega arith) in record { order = c.requires.order; size = c.requires.size; within = omega arith; long = c.requires.long; permutation = p }
+pub unkept_unit-requires : goal.unkept_unit-requires
+unkept_unit-requires g c = let p = c.requires.permutations c.loop-i.i (omega arith) in record { order = c.requires.order; size = c.requires.size; within = omega arith; long = c.requires.long; permutation = p }
 
 pub returns-in-Some : goal.returns-in-Some
 returns-in-Some g c =

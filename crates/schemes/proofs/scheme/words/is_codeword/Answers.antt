@@ -12,7 +12,7 @@ returns-then-checks-j g c = (
   (λ cw. absurd (
       let C = code (g.K.Kind.ring c.args.kind.now) c.args.n c.args.k c.args.rows.now in
       c.if-checks-j.true
-      (c.check-symbols-checks.ensures c.loop-j.j (omega arith) ∙ ap (λ m. check C (take m c.args.w.now) c.loop-j.j) (sub-zero c.args.k)
+      (c.check_symbols-checks.ensures c.loop-j.j (omega arith) ∙ ap (λ m. check C (take m c.args.w.now) c.loop-j.j) (sub-zero c.args.k)
       ∙ sym (check_self C c.args.w.now cw c.loop-j.j (omega arith))))),
 )
 

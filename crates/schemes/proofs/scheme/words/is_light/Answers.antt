@@ -31,8 +31,8 @@ loop-j-preserved g c =
     let at : get_or (codeword C u) p 0 ≡ check C u c.loop-j.j = codeword-check C u long c.loop-j.j (omega arith) in
     let next : weight (suc p) (codeword C u) ≡ weight (c.args.k + (c.loop-j.j + 1)) (codeword C u) = ap (λ m. weight m (codeword C u)) (let z : suc p ≡ c.args.k + (c.loop-j.j + 1) = omega arith in z) in
     elim c.if-checks-j-ne0.branch [
-      | then-checks-j-ne0 w ↦ (omega (arith, w.count-is, distance_other p (codeword C u) [] (λ e. w.if-checks-j-ne0.true (c.check-symbols-checks.ensures c.loop-j.j (omega arith) ∙ sym at ∙ e))), omega (arith, w.count-is))
-      | else-checks-j-ne0 w ↦ (omega (arith, w.count-is, distance_same p (codeword C u) [] (at ∙ sym (c.check-symbols-checks.ensures c.loop-j.j (omega arith)) ∙ w.if-checks-j-ne0.false)), omega (arith, w.count-is))
+      | then-checks-j-ne0 w ↦ (omega (arith, w.count-is, distance_other p (codeword C u) [] (λ e. w.if-checks-j-ne0.true (c.check_symbols-checks.ensures c.loop-j.j (omega arith) ∙ sym at ∙ e))), omega (arith, w.count-is))
+      | else-checks-j-ne0 w ↦ (omega (arith, w.count-is, distance_same p (codeword C u) [] (at ∙ sym (c.check_symbols-checks.ensures c.loop-j.j (omega arith)) ∙ w.if-checks-j-ne0.false)), omega (arith, w.count-is))
     ]
 
 pub returns : goal.returns
