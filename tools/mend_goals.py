@@ -7,7 +7,10 @@ import glob
 import re
 
 WORDS = {"overflow-" + w: "overflow_" + w for w in ("add", "sub", "mul", "neg", "div", "rem", "shl", "shr", "cast", "step")}
-WORDS.update({"nonzero-div": "nonzero_div", "nonzero-rem": "nonzero_rem", "type-inv": "type_inv"})
+WORDS.update({"nonzero-div": "nonzero_div", "nonzero-rem": "nonzero_rem", "type-inv": "type_inv",
+              "in-default": "in_default", "in-err": "in_err", "in-ok": "in_ok"})
+# Generic code names the members of its bounds by the bound.
+MEMBERS = {r"\bring kind\.now": "K.ring kind.now", r"\bmeaning list\.now": "L.meaning list.now"}
 names = set()
 for path in glob.glob("crates/*/src/**/*.rt", recursive=True):
     with open(path, encoding="utf-8") as f:
@@ -21,6 +24,16 @@ for path in sorted(glob.glob("crates/*/proofs/**/*.antt", recursive=True)):
     with open(path, encoding="utf-8") as f:
         text = f.read()
     new = either.sub(lambda m: WORDS[m.group(1)], text)
+    if new != text:
+        with open(path, "w", encoding="utf-8") as f:
+            f.write(new)
+        print("mended:", path)
+for path in sorted(glob.glob("crates/*/src/**/*.rt", recursive=True)):
+    with open(path, encoding="utf-8") as f:
+        text = f.read()
+    new = text
+    for old, by in MEMBERS.items():
+        new = re.sub(r"(?<![KL]\.)" + old, by, new)
     if new != text:
         with open(path, "w", encoding="utf-8") as f:
             f.write(new)

@@ -43,7 +43,7 @@ fn add_into<K: Kind, L: Permutations>(
 ) -> Result<(), AllocError>
     requires room { length out.old ≡ (kept live.old).n }
     ensures keeps { kept live.new ≡ kept live.old }
-    ensures added { OnOk result (Added (kept live.old) (handing (ring kind.now) rows.now (meaning list.now)) number block.now (tallied live.old) (tallied live.new) text.old.items text.new.items) }
+    ensures added { OnOk result (Added (kept live.old) (handing (K.ring kind.now) rows.now (L.meaning list.now)) number block.now (tallied live.old) (tallied live.new) text.old.items text.new.items) }
 {
     let answer = live.correct(kind, list, rows, block, out);
     put_line(heap, text, number, block, answer, out)
@@ -64,7 +64,7 @@ fn add<K: Kind, L: Permutations>(
     requires few { i + 1 < 2 ^ 64 }
     requires size { (n ≡ (kept live.old).n) × (n ≤ 64) }
     ensures keeps { kept live.new ≡ kept live.old }
-    ensures added { OnOk result (Added (kept live.old) (handing (ring kind.now) rows.now (meaning list.now)) (i + 1) block.now (tallied live.old) (tallied live.new) text.old.items text.new.items) }
+    ensures added { OnOk result (Added (kept live.old) (handing (K.ring kind.now) rows.now (L.meaning list.now)) (i + 1) block.now (tallied live.old) (tallied live.new) text.old.items text.new.items) }
 {
     let mut out = [0u8; 64];
     add_into(
@@ -92,8 +92,8 @@ pub(crate) fn session<K: Kind, L: Permutations>(
 ) -> Result<Vec<u8>, AllocError>
     requires size { (n ≡ (kept live).n) × (2 ≤ n) × (n ≤ 64) }
     requires starts { tallied live ≡ none }
-    requires promise { Promise (kept live) (handing (ring kind.now) rows.now (meaning list.now)) }
-    ensures { IfOk result (λ text. Reported (kept live) (handing (ring kind.now) rows.now (meaning list.now)) bytes.now text.items) }
+    requires promise { Promise (kept live) (handing (K.ring kind.now) rows.now (L.meaning list.now)) }
+    ensures { IfOk result (λ text. Reported (kept live) (handing (K.ring kind.now) rows.now (L.meaning list.now)) bytes.now text.items) }
 {
     let mut scheme = live;
     let mut text = Vec::new(heap);

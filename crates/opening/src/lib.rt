@@ -56,7 +56,7 @@ pub fn go_live<K: Kind, L: Permutations>(
     list: &L,
     rows: &[u8],
 ) -> Result<Live, Fault>
-    ensures { MatchResult result (WentLive (plan n k t (ring kind.now).q) (handing (ring kind.now) rows.now (meaning list.now))) (λ e. live_refusal (plan n k t (ring kind.now).q) (handing (ring kind.now) rows.now (meaning list.now)) ≡ Some (refusal e)) }
+    ensures { MatchResult result (WentLive (plan n k t (K.ring kind.now).q) (handing (K.ring kind.now) rows.now (L.meaning list.now))) (λ e. live_refusal (plan n k t (K.ring kind.now).q) (handing (K.ring kind.now) rows.now (L.meaning list.now)) ≡ Some (refusal e)) }
 {
     let live = Draft::new(n, k, t, kind)?.trial(kind, list, rows)?;
     Ok(live)

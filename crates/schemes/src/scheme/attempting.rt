@@ -34,8 +34,8 @@ fn set_checks<K: Kind>(
     requires order { (k < n) × (n ≤ 64) × (t ≤ 5) }
     requires size { length rows.now ≡ k * (n - k) }
     requires long { length word.old ≡ n }
-    ensures { MatchOption result (t < distance n word.old (codeword (code (ring kind.now) n k rows.now) (take k word.old)))
-        (λ d. (d ≡ distance n word.old (codeword (code (ring kind.now) n k rows.now) (take k word.old))) × (d ≤ t) × (word.new ≡ codeword (code (ring kind.now) n k rows.now) (take k word.old))) }
+    ensures { MatchOption result (t < distance n word.old (codeword (code (K.ring kind.now) n k rows.now) (take k word.old)))
+        (λ d. (d ≡ distance n word.old (codeword (code (K.ring kind.now) n k rows.now) (take k word.old))) × (d ≤ t) × (word.new ≡ codeword (code (K.ring kind.now) n k rows.now) (take k word.old))) }
 {
     let checks = check_symbols(kind, n, k, rows, &word[0..k]);
     let mut changed = 0u8;
@@ -67,13 +67,13 @@ fn attempt_in<K: Kind, L: Permutations>(
 ) -> Option<u8>
     requires order { (k < n) × (n ≤ 64) × (t ≤ 5) }
     requires size { length rows.now ≡ k * (n - k) }
-    requires within { i < (meaning list.now).count }
-    requires long { n ≡ (meaning list.now).places }
-    requires block { Symbols (ring kind.now).q n v.now }
+    requires within { i < (L.meaning list.now).count }
+    requires long { n ≡ (L.meaning list.now).places }
+    requires block { Symbols (K.ring kind.now).q n v.now }
     requires room { (length word.old ≡ n) × (length out.old ≡ n) }
-    ensures { MatchOption result (Succeeds (code (ring kind.now) n k rows.now) t ((meaning list.now).target i) v.now → ⊥)
-        (λ d. Succeeds (code (ring kind.now) n k rows.now) t ((meaning list.now).target i) v.now
-        × (out.new ≡ candidate (code (ring kind.now) n k rows.now) ((meaning list.now).target i) v.now)
+    ensures { MatchOption result (Succeeds (code (K.ring kind.now) n k rows.now) t ((L.meaning list.now).target i) v.now → ⊥)
+        (λ d. Succeeds (code (K.ring kind.now) n k rows.now) t ((L.meaning list.now).target i) v.now
+        × (out.new ≡ candidate (code (K.ring kind.now) n k rows.now) ((L.meaning list.now).target i) v.now)
         × (d ≡ distance n v.now out.new)) }
 {
     let Some(targets) = take_by(list, i, n, v, word) else {
@@ -103,13 +103,13 @@ fn attempt<K: Kind, L: Permutations>(
 ) -> Option<u8>
     requires order { (k < n) × (n ≤ 64) × (t ≤ 5) }
     requires size { length rows.now ≡ k * (n - k) }
-    requires within { i < (meaning list.now).count }
-    requires long { n ≡ (meaning list.now).places }
-    requires block { Symbols (ring kind.now).q n v.now }
+    requires within { i < (L.meaning list.now).count }
+    requires long { n ≡ (L.meaning list.now).places }
+    requires block { Symbols (K.ring kind.now).q n v.now }
     requires room { length out.old ≡ n }
-    ensures { MatchOption result (Succeeds (code (ring kind.now) n k rows.now) t ((meaning list.now).target i) v.now → ⊥)
-        (λ d. Succeeds (code (ring kind.now) n k rows.now) t ((meaning list.now).target i) v.now
-        × (out.new ≡ candidate (code (ring kind.now) n k rows.now) ((meaning list.now).target i) v.now)
+    ensures { MatchOption result (Succeeds (code (K.ring kind.now) n k rows.now) t ((L.meaning list.now).target i) v.now → ⊥)
+        (λ d. Succeeds (code (K.ring kind.now) n k rows.now) t ((L.meaning list.now).target i) v.now
+        × (out.new ≡ candidate (code (K.ring kind.now) n k rows.now) ((L.meaning list.now).target i) v.now)
         × (d ≡ distance n v.now out.new)) }
 {
     let mut word = [0u8; 64];
@@ -128,15 +128,15 @@ fn first_success<K: Kind, L: Permutations>(
     v: &[u8],
     word: &mut [u8],
 ) -> Option<(u8, u16)>
-    requires all { m ≡ (meaning list.now).count }
+    requires all { m ≡ (L.meaning list.now).count }
     requires order { (k < n) × (n ≤ 64) × (t ≤ 5) }
     requires size { length rows.now ≡ k * (n - k) }
-    requires long { n ≡ (meaning list.now).places }
-    requires block { Symbols (ring kind.now).q n v.now }
+    requires long { n ≡ (L.meaning list.now).places }
+    requires block { Symbols (K.ring kind.now).q n v.now }
     requires room { length word.old ≡ n }
-    ensures { MatchOption result ((i : ℕ) → i < (meaning list.now).count → Succeeds (code (ring kind.now) n k rows.now) t ((meaning list.now).target i) v.now → ⊥)
-        (λ x. (x.1 < (meaning list.now).count) × First (code (ring kind.now) n k rows.now) t (meaning list.now).target v.now x.1
-        × (word.new ≡ candidate (code (ring kind.now) n k rows.now) ((meaning list.now).target x.1) v.now) × (x.0 ≡ distance n v.now word.new)) }
+    ensures { MatchOption result ((i : ℕ) → i < (L.meaning list.now).count → Succeeds (code (K.ring kind.now) n k rows.now) t ((L.meaning list.now).target i) v.now → ⊥)
+        (λ x. (x.1 < (L.meaning list.now).count) × First (code (K.ring kind.now) n k rows.now) t (L.meaning list.now).target v.now x.1
+        × (word.new ≡ candidate (code (K.ring kind.now) n k rows.now) ((L.meaning list.now).target x.1) v.now) × (x.0 ≡ distance n v.now word.new)) }
 {
     let mut i = 0;
     let found = loop {
@@ -165,12 +165,12 @@ fn correct_by<K: Kind, L: Permutations>(
 ) -> Option<(u8, u16)>
     requires order { (k < n) × (n ≤ 64) × (t ≤ 5) }
     requires size { length rows.now ≡ k * (n - k) }
-    requires long { n ≡ (meaning list.now).places }
-    requires block { Symbols (ring kind.now).q n v.now }
+    requires long { n ≡ (L.meaning list.now).places }
+    requires block { Symbols (K.ring kind.now).q n v.now }
     requires room { (length word.old ≡ n) × (length out.old ≡ n) }
-    ensures { MatchOption result (((i : ℕ) → i < (meaning list.now).count → Succeeds (code (ring kind.now) n k rows.now) t ((meaning list.now).target i) v.now → ⊥) × (out.new ≡ out.old))
-        (λ x. (x.1 < (meaning list.now).count) × First (code (ring kind.now) n k rows.now) t (meaning list.now).target v.now x.1
-        × (out.new ≡ candidate (code (ring kind.now) n k rows.now) ((meaning list.now).target x.1) v.now) × (x.0 ≡ distance n v.now out.new)) }
+    ensures { MatchOption result (((i : ℕ) → i < (L.meaning list.now).count → Succeeds (code (K.ring kind.now) n k rows.now) t ((L.meaning list.now).target i) v.now → ⊥) × (out.new ≡ out.old))
+        (λ x. (x.1 < (L.meaning list.now).count) × First (code (K.ring kind.now) n k rows.now) t (L.meaning list.now).target v.now x.1
+        × (out.new ≡ candidate (code (K.ring kind.now) n k rows.now) ((L.meaning list.now).target x.1) v.now) × (x.0 ≡ distance n v.now out.new)) }
 {
     let found = first_success(kind, list, list.count(), n, k, t, rows, v, word);
     if let Some(x) = found {
@@ -193,12 +193,12 @@ pub(crate) fn correct_into<K: Kind, L: Permutations>(
 ) -> Option<(u8, u16)>
     requires order { (k < n) × (n ≤ 64) × (t ≤ 5) }
     requires size { length rows.now ≡ k * (n - k) }
-    requires long { n ≡ (meaning list.now).places }
-    requires block { Symbols (ring kind.now).q n v.now }
+    requires long { n ≡ (L.meaning list.now).places }
+    requires block { Symbols (K.ring kind.now).q n v.now }
     requires room { length out.old ≡ n }
-    ensures { MatchOption result (((i : ℕ) → i < (meaning list.now).count → Succeeds (code (ring kind.now) n k rows.now) t ((meaning list.now).target i) v.now → ⊥) × (out.new ≡ out.old))
-        (λ x. (x.1 < (meaning list.now).count) × First (code (ring kind.now) n k rows.now) t (meaning list.now).target v.now x.1
-        × (out.new ≡ candidate (code (ring kind.now) n k rows.now) ((meaning list.now).target x.1) v.now) × (x.0 ≡ distance n v.now out.new)) }
+    ensures { MatchOption result (((i : ℕ) → i < (L.meaning list.now).count → Succeeds (code (K.ring kind.now) n k rows.now) t ((L.meaning list.now).target i) v.now → ⊥) × (out.new ≡ out.old))
+        (λ x. (x.1 < (L.meaning list.now).count) × First (code (K.ring kind.now) n k rows.now) t (L.meaning list.now).target v.now x.1
+        × (out.new ≡ candidate (code (K.ring kind.now) n k rows.now) ((L.meaning list.now).target x.1) v.now) × (x.0 ≡ distance n v.now out.new)) }
 {
     let mut word = [0u8; 64];
     correct_by(kind, list, n, k, t, rows, v, &mut word[0..n], out)

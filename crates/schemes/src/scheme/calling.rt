@@ -68,7 +68,7 @@ impl Live {
         input: &[u8],
         output: &[u8],
     ) -> Result<(), Fault>
-        ensures { Answers (objection (kept self.now) (handing (ring kind.now) rows.now (meaning list.now)) size input.now output.now) result (λ _. Unit {0}) }
+        ensures { Answers (objection (kept self.now) (handing (K.ring kind.now) rows.now (L.meaning list.now)) size input.now output.now) result (λ _. Unit {0}) }
     {
         let n = self.draft.n as usize;
         let k = self.draft.k as usize;
@@ -97,7 +97,7 @@ impl Live {
         message: &[u8],
         out: &mut [u8],
     ) -> Result<(), Fault>
-        ensures { Encodes (kept self.now) (encoding (handing (ring kind.now) rows.now (meaning list.now)) message.now out.old result out.new) }
+        ensures { Encodes (kept self.now) (encoding (handing (K.ring kind.now) rows.now (L.meaning list.now)) message.now out.old result out.new) }
     {
         let n = self.draft.n as usize;
         let k = self.draft.k as usize;
@@ -115,7 +115,7 @@ impl Live {
         block: &[u8],
         out: &mut [u8],
     ) -> Result<(u8, u16), Fault>
-        ensures does { Corrects (kept self.old) (tallied self.old) (correcting (handing (ring kind.now) rows.now (meaning list.now)) block.now out.old result out.new) (tallied self.new) }
+        ensures does { Corrects (kept self.old) (tallied self.old) (correcting (handing (K.ring kind.now) rows.now (L.meaning list.now)) block.now out.old result out.new) (tallied self.new) }
         ensures keeps { kept self.new ≡ kept self.old }
     {
         let n = self.draft.n as usize;

@@ -28,7 +28,7 @@ pub(crate) fn message_count(q: u8, k: u8) -> Option<u32>
 impl Draft {
     // A draft of the numbers n, k and t, with the q of the kind.
     pub fn new<K: Kind>(n: u8, k: u8, t: u8, kind: &K) -> Result<Draft, Fault>
-        ensures { Answers (draft_refusal n k t (ring kind.now).q) result (λ d. planned d ≡ plan n k t (ring kind.now).q) }
+        ensures { Answers (draft_refusal n k t (K.ring kind.now).q) result (λ d. planned d ≡ plan n k t (K.ring kind.now).q) }
     {
         if n < 2 || n > 64 || k < 1 || k > 16 || k >= n {
             return Err(Fault::CodeSize);

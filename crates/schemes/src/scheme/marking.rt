@@ -134,10 +134,10 @@ fn first_met(masks: &[u64; 512], m: usize, t: usize, n: u8) -> Option<u64>
 
 // Bit p is set when permutation i takes p to one of the first k places.
 fn mask_of<L: Permutations>(list: &L, i: u16, k: u8, n: u8) -> u64
-    requires within { i < (meaning list.now).count }
-    requires long { n ≡ (meaning list.now).places }
+    requires within { i < (L.meaning list.now).count }
+    requires long { n ≡ (L.meaning list.now).places }
     requires few { n ≤ 64 }
-    ensures { MaskOf n k ((meaning list.now).target i) result }
+    ensures { MaskOf n k ((L.meaning list.now).target i) result }
 {
     let asked = list.targets(i);
     let mut mask = 0u64;
@@ -154,9 +154,9 @@ fn mask_of<L: Permutations>(list: &L, i: u16, k: u8, n: u8) -> u64
 
 // The masks of all permutations of the list.
 fn masks_of<L: Permutations>(list: &L, k: u8, n: u8) -> [u64; 512]
-    requires long { n ≡ (meaning list.now).places }
+    requires long { n ≡ (L.meaning list.now).places }
     requires few { n ≤ 64 }
-    ensures { (i : ℕ) → i < (meaning list.now).count → MaskOf n k ((meaning list.now).target i) (slice_index result i) }
+    ensures { (i : ℕ) → i < (L.meaning list.now).count → MaskOf n k ((L.meaning list.now).target i) (slice_index result i) }
 {
     let mut masks = [0u64; 512];
     for i in 0..list.count() {
@@ -167,9 +167,9 @@ fn masks_of<L: Permutations>(list: &L, k: u8, n: u8) -> [u64; 512]
 
 // The first set of t places, in dictionary order, that no permutation clears, as the sum of the powers of two.
 pub(crate) fn first_uncleared<L: Permutations>(list: &L, n: u8, k: u8, t: u8) -> Option<u64>
-    requires long { n ≡ (meaning list.now).places }
+    requires long { n ≡ (L.meaning list.now).places }
     requires sizes { (n ≤ 64) × (0 < t) × (t ≤ 5) × (t ≤ n) }
-    ensures { result ≡ option_map bits (uncleared n k t (meaning list.now).count (meaning list.now).target) }
+    ensures { result ≡ option_map bits (uncleared n k t (L.meaning list.now).count (L.meaning list.now).target) }
 {
     let masks = masks_of(list, k, n);
     first_met(&masks, list.count() as usize, t as usize, n)

@@ -13,10 +13,10 @@ const NOWHERE: u8 = 255;
 
 // The first position that shows that permutation i is none.
 fn bad_place<L: Permutations>(list: &L, i: u16, n: u8) -> Option<u8>
-    requires within { i < (meaning list.now).count }
-    requires long { n ≡ (meaning list.now).places }
+    requires within { i < (L.meaning list.now).count }
+    requires long { n ≡ (L.meaning list.now).places }
     requires few { n ≤ 64 }
-    ensures { result ≡ bad_place n ((meaning list.now).target i) }
+    ensures { result ≡ bad_place n ((L.meaning list.now).target i) }
 {
     let asked = list.targets(i);
     let mut sources = [NOWHERE; 64];
@@ -37,9 +37,9 @@ fn bad_place<L: Permutations>(list: &L, i: u16, n: u8) -> Option<u8>
 
 // The first entry that is no permutation, and the first position that shows it.
 pub(crate) fn bad_entry<L: Permutations>(list: &L, n: u8) -> Option<(u16, u8)>
-    requires long { n ≡ (meaning list.now).places }
+    requires long { n ≡ (L.meaning list.now).places }
     requires few { n ≤ 64 }
-    ensures { result ≡ bad_entry n (meaning list.now).count (meaning list.now).target }
+    ensures { result ≡ bad_entry n (L.meaning list.now).count (L.meaning list.now).target }
 {
     for i in 0..list.count() {
         if let Some(p) = bad_place(list, i, n) {
@@ -57,11 +57,11 @@ pub(crate) fn take_by<L: Permutations>(
     v: &[u8],
     word: &mut [u8],
 ) -> Option<Targets>
-    requires within { i < (meaning list.now).count }
-    requires long { n ≡ (meaning list.now).places }
+    requires within { i < (L.meaning list.now).count }
+    requires long { n ≡ (L.meaning list.now).places }
     requires few { n ≤ 64 }
     requires room { (length v.now ≡ n) × (length word.old ≡ n) }
-    ensures { MatchOption result (Permutation n ((meaning list.now).target i) → ⊥) (λ s. Taken n ((meaning list.now).target i) s v.now word.new) }
+    ensures { MatchOption result (Permutation n ((L.meaning list.now).target i) → ⊥) (λ s. Taken n ((L.meaning list.now).target i) s v.now word.new) }
 {
     let asked = list.targets(i);
     let mut sources = [NOWHERE; 64];
@@ -105,11 +105,11 @@ fn keeps_unit_in<K: Kind, L: Permutations>(
 ) -> bool
     requires order { (0 < k) × (k < n) × (n ≤ 64) }
     requires size { length rows.now ≡ k * (n - k) }
-    requires within { i < (meaning list.now).count }
-    requires long { n ≡ (meaning list.now).places }
-    requires permutation { Permutation n ((meaning list.now).target i) }
+    requires within { i < (L.meaning list.now).count }
+    requires long { n ≡ (L.meaning list.now).places }
+    requires permutation { Permutation n ((L.meaning list.now).target i) }
     requires room { (length message.old ≡ k) × (length word.old ≡ n) × (length image.old ≡ n) }
-    ensures { result ≡ is_codeword (code (ring kind.now) n k rows.now) (moved n ((meaning list.now).target i) (codeword (code (ring kind.now) n k rows.now) (unit k j))) }
+    ensures { result ≡ is_codeword (code (K.ring kind.now) n k rows.now) (moved n ((L.meaning list.now).target i) (codeword (code (K.ring kind.now) n k rows.now) (unit k j))) }
 {
     write_unit(j, message);
     encode_into(kind, n, k, rows, message, word);
@@ -131,10 +131,10 @@ fn keeps_unit<K: Kind, L: Permutations>(
 ) -> bool
     requires order { (0 < k) × (k < n) × (n ≤ 64) }
     requires size { length rows.now ≡ k * (n - k) }
-    requires within { i < (meaning list.now).count }
-    requires long { n ≡ (meaning list.now).places }
-    requires permutation { Permutation n ((meaning list.now).target i) }
-    ensures { result ≡ is_codeword (code (ring kind.now) n k rows.now) (moved n ((meaning list.now).target i) (codeword (code (ring kind.now) n k rows.now) (unit k j))) }
+    requires within { i < (L.meaning list.now).count }
+    requires long { n ≡ (L.meaning list.now).places }
+    requires permutation { Permutation n ((L.meaning list.now).target i) }
+    ensures { result ≡ is_codeword (code (K.ring kind.now) n k rows.now) (moved n ((L.meaning list.now).target i) (codeword (code (K.ring kind.now) n k rows.now) (unit k j))) }
 {
     let mut message = [0u8; 64];
     let mut word = [0u8; 64];
@@ -164,10 +164,10 @@ fn unkept_unit<K: Kind, L: Permutations>(
 ) -> Option<u8>
     requires order { (0 < k) × (k < n) × (n ≤ 64) }
     requires size { length rows.now ≡ k * (n - k) }
-    requires within { i < (meaning list.now).count }
-    requires long { n ≡ (meaning list.now).places }
-    requires permutation { Permutation n ((meaning list.now).target i) }
-    ensures { result ≡ unkept_unit (code (ring kind.now) n k rows.now) ((meaning list.now).target i) }
+    requires within { i < (L.meaning list.now).count }
+    requires long { n ≡ (L.meaning list.now).places }
+    requires permutation { Permutation n ((L.meaning list.now).target i) }
+    ensures { result ≡ unkept_unit (code (K.ring kind.now) n k rows.now) ((L.meaning list.now).target i) }
 {
     for j in 0..k {
         if !keeps_unit(kind, list, i, n, k, rows, j) {
@@ -187,9 +187,9 @@ pub(crate) fn unkept<K: Kind, L: Permutations>(
 ) -> Option<(u16, u8)>
     requires order { (0 < k) × (k < n) × (n ≤ 64) }
     requires size { length rows.now ≡ k * (n - k) }
-    requires long { n ≡ (meaning list.now).places }
-    requires permutations { (i : ℕ) → i < (meaning list.now).count → Permutation n ((meaning list.now).target i) }
-    ensures { result ≡ unkeptOf (code (ring kind.now) n k rows.now) (meaning list.now).count (meaning list.now).target }
+    requires long { n ≡ (L.meaning list.now).places }
+    requires permutations { (i : ℕ) → i < (L.meaning list.now).count → Permutation n ((L.meaning list.now).target i) }
+    ensures { result ≡ unkeptOf (code (K.ring kind.now) n k rows.now) (L.meaning list.now).count (L.meaning list.now).target }
 {
     for i in 0..list.count() {
         if let Some(j) = unkept_unit(kind, list, i, n, k, rows) {

@@ -33,8 +33,8 @@ fn first_light<K: Kind>(
 ) -> Option<u32>
     requires order { (k < n) × (n ≤ 64) × (k ≤ 16) }
     requires size { length rows.now ≡ k * (n - k) }
-    requires all { count ≡ (ring kind.now).q ^ k }
-    ensures { result ≡ light (code (ring kind.now) n k rows.now) limit }
+    requires all { count ≡ (K.ring kind.now).q ^ k }
+    ensures { result ≡ light (code (K.ring kind.now) n k rows.now) limit }
 {
     let q = kind.order();
     for x in 1..count {
@@ -57,8 +57,8 @@ pub(crate) fn light_message<K: Kind>(
 ) -> Option<u32>
     requires order { (k < n) × (n ≤ 64) × (k ≤ 16) }
     requires size { length rows.now ≡ k * (n - k) }
-    requires all { count ≡ (ring kind.now).q ^ k }
-    ensures { result ≡ light (code (ring kind.now) n k rows.now) (2 * t) }
+    requires all { count ≡ (K.ring kind.now).q ^ k }
+    ensures { result ≡ light (code (K.ring kind.now) n k rows.now) (2 * t) }
 {
     first_light(kind, n, k, rows, 2 * t as usize, count)
 }

@@ -23,7 +23,7 @@ impl Draft {
         list: &L,
         rows: &[u8],
     ) -> Result<(), Fault>
-        ensures { Answers (unfit (planned self.now) (handing (ring kind.now) rows.now (meaning list.now))) result (λ _. Unit {0}) }
+        ensures { Answers (unfit (planned self.now) (handing (K.ring kind.now) rows.now (L.meaning list.now))) result (λ _. Unit {0}) }
     {
         let n = self.n as usize;
         let k = self.k as usize;
@@ -49,8 +49,8 @@ impl Draft {
         list: &L,
         rows: &[u8],
     ) -> Result<(), Fault>
-        requires { unfit (planned self.now) (handing (ring kind.now) rows.now (meaning list.now)) ≡ None }
-        ensures { Answers (fails (planned self.now) (handing (ring kind.now) rows.now (meaning list.now))) result (λ _. Unit {0}) }
+        requires { unfit (planned self.now) (handing (K.ring kind.now) rows.now (L.meaning list.now)) ≡ None }
+        ensures { Answers (fails (planned self.now) (handing (K.ring kind.now) rows.now (L.meaning list.now))) result (λ _. Unit {0}) }
     {
         let n = self.n as usize;
         let k = self.k as usize;
@@ -76,7 +76,7 @@ impl Draft {
         list: &L,
         rows: &[u8],
     ) -> Result<(), Fault>
-        ensures { Answers (verdict (planned self.now) (handing (ring kind.now) rows.now (meaning list.now))) result (λ _. Unit {0}) }
+        ensures { Answers (verdict (planned self.now) (handing (K.ring kind.now) rows.now (L.meaning list.now))) result (λ _. Unit {0}) }
     {
         self.check_fit(kind, list, rows)?;
         self.check_code(kind, list, rows)
@@ -89,7 +89,7 @@ impl Draft {
         list: &L,
         rows: &[u8],
     ) -> Result<Live, Rejected>
-        ensures { Tried (planned self) (handing (ring kind.now) rows.now (meaning list.now)) result }
+        ensures { Tried (planned self) (handing (K.ring kind.now) rows.now (L.meaning list.now)) result }
     {
         match self.examine(kind, list, rows) {
             Ok(()) => Ok(Live {
@@ -114,9 +114,9 @@ impl Draft {
         list: &L,
         rows: &[u8],
     ) -> Result<Live, Rejected>
-        ensures tried { Tried (planned self) (handing (ring kind.now) rows.now (meaning list.now)) result }
-        ensures promised { IfOk result (λ live. Promise (kept live) (handing (ring kind.now) rows.now (meaning list.now))) }
-        ensures exactly { unfit (planned self) (handing (ring kind.now) rows.now (meaning list.now)) ≡ None → Exactly (is_ok result ≡ true) (Serves (planned self) (handing (ring kind.now) rows.now (meaning list.now))) }
+        ensures tried { Tried (planned self) (handing (K.ring kind.now) rows.now (L.meaning list.now)) result }
+        ensures promised { IfOk result (λ live. Promise (kept live) (handing (K.ring kind.now) rows.now (L.meaning list.now))) }
+        ensures exactly { unfit (planned self) (handing (K.ring kind.now) rows.now (L.meaning list.now)) ≡ None → Exactly (is_ok result ≡ true) (Serves (planned self) (handing (K.ring kind.now) rows.now (L.meaning list.now))) }
     {
         self.decide(kind, list, rows)
     }

@@ -29,7 +29,7 @@ pub(crate) fn check_symbols<K: Kind>(
     requires few { n ≤ 64 }
     requires size { length rows.now ≡ k * (n - k) }
     requires long { length message.now ≡ k }
-    ensures { (j : ℕ) → j < n - k → slice_index result j ≡ check (code (ring kind.now) n k rows.now) message.now j }
+    ensures { (j : ℕ) → j < n - k → slice_index result j ≡ check (code (K.ring kind.now) n k rows.now) message.now j }
 {
     let width = n - k;
     let mut sums = [0u8; 64];
@@ -64,7 +64,7 @@ pub(crate) fn encode_into<K: Kind>(
     requires size { length rows.now ≡ k * (n - k) }
     requires long { length message.now ≡ k }
     requires room { length out.old ≡ n }
-    ensures { out.new ≡ codeword (code (ring kind.now) n k rows.now) message.now }
+    ensures { out.new ≡ codeword (code (K.ring kind.now) n k rows.now) message.now }
 {
     let checks = check_symbols(kind, n, k, rows, message);
     for i in 0..k {
@@ -80,8 +80,8 @@ pub(crate) fn is_codeword<K: Kind>(kind: &K, n: usize, k: usize, rows: &[u8], w:
     requires order { k < n }
     requires few { n ≤ 64 }
     requires size { length rows.now ≡ k * (n - k) }
-    requires symbols { Symbols (ring kind.now).q n w.now }
-    ensures { Decides result (Codeword (code (ring kind.now) n k rows.now) w.now) }
+    requires symbols { Symbols (K.ring kind.now).q n w.now }
+    ensures { Decides result (Codeword (code (K.ring kind.now) n k rows.now) w.now) }
 {
     let checks = check_symbols(kind, n, k, rows, &w[0..k]);
     for j in 0..n - k {
@@ -118,7 +118,7 @@ pub(crate) fn is_light<K: Kind>(
     requires few { n ≤ 64 }
     requires size { length rows.now ≡ k * (n - k) }
     requires long { length message.now ≡ k }
-    ensures { result ≡ nat_le (weight n (codeword (code (ring kind.now) n k rows.now) message.now)) limit }
+    ensures { result ≡ nat_le (weight n (codeword (code (K.ring kind.now) n k rows.now) message.now)) limit }
 {
     let checks = check_symbols(kind, n, k, rows, message);
     let mut count = nonzero(message);

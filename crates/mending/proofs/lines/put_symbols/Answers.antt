@@ -12,7 +12,7 @@ more before text text' symbols p x h e d f =
 
 pub loop-p-preserved : goal.loop-p-preserved
 loop-p-preserved c =
-    more _ _ _ c.args.symbols.now c.loop-p.p c.digit.result (omega arith) c.loop-p.invariant c.digit.ensures c.in-ok-push.ensures.items
+    more _ _ _ c.args.symbols.now c.loop-p.p c.digit.result (omega arith) c.loop-p.invariant c.digit.ensures c.in_ok-push.ensures.items
 
 pub returns : goal.returns
 returns c =

@@ -22,8 +22,8 @@ loop-i-preserved g c =
     let bytes = c.args.bytes.now in
     let (same, (calls, s)) = c.loop-i.invariant in
     let block = c.piece.ensures ∙ ap (λ (m : ℕ). piece m bytes c.loop-i.i) c.requires.size.0 in
-    let added = added_as _ S h (c.loop-i.i + 1) _ (piece S.n bytes c.loop-i.i) _ _ _ _ same block c.in-ok-add.ensures.added in
-    (c.in-ok-add.ensures.keeps ∙ same, (correct added.call ∷ calls, session_more S h bytes c.loop-i.i calls _ _ _ _ s added))
+    let added = added_as _ S h (c.loop-i.i + 1) _ (piece S.n bytes c.loop-i.i) _ _ _ _ same block c.in_ok-add.ensures.added in
+    (c.in_ok-add.ensures.keeps ∙ same, (correct added.call ∷ calls, session_more S h bytes c.loop-i.i calls _ _ _ _ s added))
 
 pub returns : goal.returns
 returns g c =
@@ -34,4 +34,4 @@ returns g c =
     let end : c.loop-i.i ≡ pieces S.n bytes = (let z : c.loop-i.i ≡ c.pieces-i-end.result = omega arith in z) ∙ c.pieces-i-end.ensures ∙ ap (λ (m : ℕ). pieces m bytes) c.requires.size.0 in
     reported S h bytes c.requires.promise calls (tallied c.loop-i.scheme) (vec_items c.loop-i.text) _
     (subst (λ (i : ℕ). Session S h bytes i calls (tallied c.loop-i.scheme) (vec_items c.loop-i.text)) end s)
-    (c.in-ok-put_total.ensures ∙ ap (λ (x : Counts). vec_items c.loop-i.text ++ total x) c.close-tally.ensures.does.0)
+    (c.in_ok-put_total.ensures ∙ ap (λ (x : Counts). vec_items c.loop-i.text ++ total x) c.close-tally.ensures.does.0)

@@ -7,17 +7,17 @@ use Rattle.promises.proofs.Refusing.{accepted, measured, step_objects, step_full
 use Rattle.schemes.specs.Told.{answered, kept, counts}
 use Rattle.schemes.proofs.scheme.Live.correct.Goals as goal
 
-pub returns-in-err-check : goal.returns-in-err-check
-returns-in-err-check g c =
-    let p = err_from_is_err_and c.from-residual.result c.from-residual.ensures.1 in
+pub returns-in_err-check : goal.returns-in_err-check
+returns-in_err-check g c =
+    let p = err_from_is_err_and c.from_residual.result c.from_residual.ensures.1 in
     record {
-      does = step_objects _ _ _ (refusal c.in-err-check.field-0.0) c.in-err-check.ensures (ap answered (p.1 ∙ ap Err p.2)) refl;
+      does = step_objects _ _ _ (refusal c.in_err-check.field-0.0) c.in_err-check.ensures (ap answered (p.1 ∙ ap Err p.2)) refl;
       keeps = refl;
     }
 
 pub returns-then-self-ge-FULL : goal.returns-then-self-ge-FULL
 returns-then-self-ge-FULL g c = record {
-  does = step_full _ _ _ c.in-ok-check.ensures.0 (omega arith) refl refl;
+  does = step_full _ _ _ c.in_ok-check.ensures.0 (omega arith) refl refl;
   keeps = refl;
 }
 
@@ -25,18 +25,18 @@ pub correct_into-requires : goal.correct_into-requires
 correct_into-requires g c =
     let S : Scheme = kept c.args.self.now in
     let h : Handed = handing (g.K.Kind.ring c.args.kind.now) c.args.rows.now (g.L.Permutations.meaning c.args.list.now) in
-    let o = c.in-ok-check.ensures.0 in
+    let o = c.in_ok-check.ensures.0 in
     let (a, b, m, e, f) = measured S h S.n c.args.block.now c.args.out.now o in
     let (_, (long, below)) = accepted S h S.n c.args.block.now c.args.out.now o in
     record { order = (omega arith, omega arith, omega arith); size = e; long = sym b; block = (long, λ p l. omega (arith, a, below p l)); room = f }
 
-pub returns-in-default : goal.returns-in-default
-returns-in-default g c =
+pub returns-in_default : goal.returns-in_default
+returns-in_default g c =
     let S : Scheme = kept c.args.self.now in
     let h : Handed = handing (g.K.Kind.ring c.args.kind.now) c.args.rows.now (g.L.Permutations.meaning c.args.list.now) in
-    let o = c.in-ok-check.ensures.0 in
+    let o = c.in_ok-check.ensures.0 in
     let (a, b, m, e, f) = measured S h S.n c.args.block.now c.args.out.now o in
-    let (none, same) = c.in-default.ensures in
+    let (none, same) = c.in_default.ensures in
     record {
       does = step_loses _ _ _ _ o (omega arith) (record { none_succeeds = λ i l. none i (omega (arith, m)); answers = refl; word = same; tally = c.with_lost-self.ensures.tally });
       keeps = refl;
@@ -46,7 +46,7 @@ pub returns : goal.returns
 returns g c =
     let S : Scheme = kept c.args.self.now in
     let h : Handed = handing (g.K.Kind.ring c.args.kind.now) c.args.rows.now (g.L.Permutations.meaning c.args.list.now) in
-    let o = c.in-ok-check.ensures.0 in
+    let o = c.in_ok-check.ensures.0 in
     let (a, b, m, e, f) = measured S h S.n c.args.block.now c.args.out.now o in
     let (within, first, word, far) = c.in-Some.ensures in
     record {

@@ -5,15 +5,15 @@ use Rattle.codes.proofs.Linear.{candidate_symbols}
 use Rattle.schemes.proofs.Taking.{word_returned, distance-candidate, candidate_out}
 use Rattle.schemes.proofs.scheme.attempting.attempt_in.Goals as goal
 
-pub returns-in-default : goal.returns-in-default
-returns-in-default g c = λ s. c.in-default.ensures s.0
+pub returns-in_default : goal.returns-in_default
+returns-in_default g c = λ s. c.in_default.ensures s.0
 
-pub returns-in-default-set_checks : goal.returns-in-default-set_checks
-returns-in-default-set_checks g c =
+pub returns-in_default-set_checks : goal.returns-in_default-set_checks
+returns-in_default-set_checks g c =
     let C : Code = code (g.K.Kind.ring c.args.kind.now) c.args.n c.args.k c.args.rows.now in
     let σ = (g.L.Permutations.meaning c.args.list.now).target c.args.i in
     let sh = c.in-Some.ensures in
-    λ s. omega (arith, c.in-default-set_checks.ensures, distance-candidate C σ sh.permutes c.args.v.now _ sh.moves, s.2)
+    λ s. omega (arith, c.in_default-set_checks.ensures, distance-candidate C σ sh.permutes c.args.v.now _ sh.moves, s.2)
 
 pub bring_back-requires : goal.bring_back-requires
 bring_back-requires g c =

@@ -11,7 +11,7 @@ never a e = grind (arith, nat_tests)
 pub unreachable-requires : goal.unreachable-requires
 unreachable-requires c =
     let there = c.requires.within c.loop-s.s (omega arith) in
-    never there.0 (c.in-default.ensures ∙ there.1)
+    never there.0 (c.in_default.ensures ∙ there.1)
 
 pub bounds-word-to : goal.bounds-word-to
 bounds-word-to c =

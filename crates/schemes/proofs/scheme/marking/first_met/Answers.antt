@@ -17,14 +17,14 @@ loop-set-init c =
     let P = Missed c.args.masks.now c.args.m in
     (omega arith, subst (SetOf n t) (sym r) (first_set n t (omega arith)), subst (Seen n t P) (sym r) (seen_none n t P))
 
-pub returns-in-default : goal.returns-in-default
-returns-in-default c =
+pub returns-in_default : goal.returns-in_default
+returns-in_default c =
     let v = c.loop-set.invariant in
     let P = Missed c.args.masks.now c.args.m in
     let h = subst (λ (b : ℕ). (i : ℕ) × (i < c.args.m) × (bit_and (get_or c.args.masks.now i 0) b ≡ 0)) c.number_of-number.ensures c.if-not-missed.ensures in
     let k = c.skip.ensures in
     let seen = k.seen h v.2 in
-    seen_all c.args.n c.args.t P (take c.args.t c.skip.result) c.in-default.ensures k.set seen.0 seen.1
+    seen_all c.args.n c.args.t P (take c.args.t c.skip.result) c.in_default.ensures k.set seen.0 seen.1
 
 pub loop-set-smaller : goal.loop-set-smaller
 loop-set-smaller c =

@@ -8,7 +8,7 @@ use Rattle.schemes.proofs.scheme.marking.mask_of.Goals.{then-to-k, else-to-k}
 pub unreachable-requires : goal.unreachable-requires
 unreachable-requires g c =
     let M = g.L.Permutations.meaning c.args.list.now in
-    let gone = unreplied M c.args.i c.loop-p.p (omega arith) (c.in-default.ensures ∙ c.targets-asked.ensures c.loop-p.p (omega arith)) in
+    let gone = unreplied M c.args.i c.loop-p.p (omega arith) (c.in_default.ensures ∙ c.targets-asked.ensures c.loop-p.p (omega arith)) in
     omega arith
 
 pub loop-p-preserved : goal.loop-p-preserved

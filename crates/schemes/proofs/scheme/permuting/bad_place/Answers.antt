@@ -17,7 +17,7 @@ loop-p-init g c =
 pub unreachable-requires : goal.unreachable-requires
 unreachable-requires g c =
     let M : Meaning = g.L.Permutations.meaning c.args.list.now in
-    let gone = unreplied M c.args.i c.loop-p.p (omega arith) (c.in-default.ensures ∙ c.targets-asked.ensures c.loop-p.p (omega arith)) in
+    let gone = unreplied M c.args.i c.loop-p.p (omega arith) (c.in_default.ensures ∙ c.targets-asked.ensures c.loop-p.p (omega arith)) in
     omega arith
 
 pub returns-then-to-n : goal.returns-then-to-n

@@ -8,7 +8,7 @@ image_is : (C : Code) (σ : ℕ → ℕ) (j m : ℕ) (message word image : List 
 image_is C σ j m message word image l e f h = h ∙ ap (λ u. moved C.n σ u) (f ∙ ap (codeword C) (e ∙ ap (λ x. unit x j) l))
 
 pub unreachable-requires : goal.unreachable-requires
-unreachable-requires g c = c.in-default.ensures c.requires.permutation
+unreachable-requires g c = c.in_default.ensures c.requires.permutation
 
 pub is_codeword-requires : goal.is_codeword-requires
 is_codeword-requires g c =

@@ -10,10 +10,10 @@ loop-p-init g c =
     let σ = (g.L.Permutations.meaning c.args.list.now).target c.args.i in
     (come_none c.args.n σ c.requires.few (replicate 64 255) refl (λ s h. get_or-replicate 64 s 255 0 h), c.requires.room.1, λ r h. absurd (omega arith))
 
-pub returns-in-default : goal.returns-in-default
-returns-in-default g c =
+pub returns-in_default : goal.returns-in_default
+returns-in_default g c =
     let M : Meaning = g.L.Permutations.meaning c.args.list.now in
-    let gone = unreplied M c.args.i c.loop-p.p (omega arith) (c.in-default.ensures ∙ c.targets-asked.ensures c.loop-p.p (omega arith)) in
+    let gone = unreplied M c.args.i c.loop-p.p (omega arith) (c.in_default.ensures ∙ c.targets-asked.ensures c.loop-p.p (omega arith)) in
     absurd (omega arith)
 
 pub returns-then-to-n : goal.returns-then-to-n

@@ -15,7 +15,7 @@ returns-then-is_light g c =
     let R = g.K.Kind.ring c.args.kind.now in
     let C : Code = code R c.args.n c.args.k c.args.rows.now in
     let x = c.loop-x.x in
-    let m = message_is _ R.q c.args.k x c.message_symbols.result c.order-q.ensures c.message_symbols.ensures in
+    let m = message_is _ R.q c.args.k x c.message-symbols.result c.order-q.ensures c.message-symbols.ensures in
     let here = ap (λ u. leb (weight C.n (codeword C u)) c.args.limit) (sym m) ∙ sym c.is_light.ensures ∙ c.if-is_light.true in
     sym (least-some (λ y. leb (weight C.n (codeword C (message R.q C.k y))) c.args.limit) 1 (R.q ^ C.k - 1) x (omega arith) (omega arith) here (λ y a b. c.loop-x.invariant y a b))
 
