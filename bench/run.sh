@@ -6,8 +6,7 @@ cd "$(dirname "$0")/.."
 work=$(mktemp -d)
 trap 'rm -rf "$work"' EXIT
 if [ "${1:-}" != --built ]; then
-    rt staticlib timing > "$work/log" 2>&1 || { tail -5 "$work/log" >&2; exit 1; }
+    (cd crates/timing && rt lib) > "$work/log" 2>&1 || { tail -5 "$work/log" >&2; exit 1; }
 fi
-rattle_c=$(dirname "$(dirname "$(rt doc)")")/lib/librattle_c.a
-gcc -std=gnu11 -Wall -Wextra -Werror -O3 -Ibench bench/bench.c bench/plain.c target/staticlib/libtiming.a "$rattle_c" -o "$work/bench"
+gcc -std=gnu11 -Wall -Wextra -Werror -O3 -Ibench bench/bench.c bench/plain.c crates/timing/out/libtiming.a -o "$work/bench"
 "$work/bench"

@@ -9,16 +9,17 @@ trap 'rm -rf "$work"' EXIT
 
 # With --built the archive is taken as it stands.
 if [ "${1:-}" != --built ]; then
-    rt staticlib host > "$work/log" 2>&1 || { tail -5 "$work/log" >&2; exit 1; }
+    host/build.sh > "$work/log" 2>&1 || { tail -5 "$work/log" >&2; exit 1; }
+    (cd crates/mend && rt run < stdin) > "$work/log" 2>&1 || { tail -5 "$work/log" >&2; exit 1; }
 fi
 archive=target/staticlib/libhost.a
-rattle_c=$(dirname "$(dirname "$(rt doc)")")/lib/librattle_c.a
+mend=crates/mend/out/mend
 # The sanitizers watch the C side. The library is compiled without them, so valgrind watches its reads and writes.
 flags="-std=c11 -Wall -Wextra -Werror -pedantic -g -O1 -Ihost"
 sanitized="-fsanitize=address,undefined -fno-sanitize-recover=all"
-gcc $flags $sanitized host/mend.c "$archive" "$rattle_c" -o "$work/mend_host"
-gcc $flags $sanitized host/calls.c "$archive" "$rattle_c" -o "$work/calls"
-gcc $flags host/calls.c "$archive" "$rattle_c" -o "$work/calls_plain"
+gcc $flags $sanitized host/mend.c "$archive" -o "$work/mend_host"
+gcc $flags $sanitized host/calls.c "$archive" -o "$work/calls"
+gcc $flags host/calls.c "$archive" -o "$work/calls_plain"
 
 # The calls that are made one by one, from a C program of their own.
 "$work/calls"
@@ -66,7 +67,7 @@ agree() { # file, blocks
     bytes "$2" > "$work/blocks"
     { bytes "$(printf '%04x' "$(wc -c < "$work/scheme")")"; cat "$work/scheme" "$work/blocks"; } > "$work/input"
     "$work/mend_host" "$work/scheme" < "$work/blocks" > "$work/lines" || true
-    target/bin/mend < "$work/input" | told "$(wc -l < "$work/lines")" > "$work/expected"
+    "$mend" < "$work/input" | told "$(wc -l < "$work/lines")" > "$work/expected"
     if ! cmp -s "$work/lines" "$work/expected"; then
         echo "host/check.sh: mend and mend_host differ on the file $1 and the blocks $2:" >&2
         cat "$work/expected" "$work/lines" >&2

@@ -20,12 +20,12 @@ try() { # COPY CRATE EDIT
         BEGIN { old = ENVIRON["OLD"]; new = ENVIRON["NEW"] }
         { at = index($0, old); if (at) { $0 = substr($0, 1, at - 1) new substr($0, at + length(old)); n++ } print }
         END { if (n != 1) exit 1 }' "$1/kept" > "$file" || { echo "$2 $name: the old text does not stand once"; cp "$1/kept" "$file"; return; }
-    (cd "$1" && rt dev "$2") > "$1/out" 2>&1
+    (cd "$1/crates/$2" && rt check) > "$1/out" 2>&1
     cp "$1/kept" "$file"
-    if grep -q '^logic=proved' "$1/out"; then
+    if tail -n 1 "$1/out" | grep -q '^logic=proved'; then
         echo "$2 $name: SURVIVED"
     elif grep -q '^logic=not-proved' "$1/out"; then
-        said=$(grep -m1 "not proved that\|: error: \|is not admitted" "$1/out" | grep -o "crates/$2/\(src\|proofs\)/[^:]*:[0-9]*")
+        said=$(grep -m1 "^[^ ]*: error: \|^note: src/.*not proved" "$1/out" | grep -o "\(src\|proofs\)/[^:]*:[0-9]*")
         echo "$2 $name: refused at ${said:-its crate}"
     else
         echo "$2 $name: does not compile"
@@ -45,8 +45,12 @@ half() { # START CRATE
 
 for j in 0 1; do
     mkdir "$work/copy$j"
-    cp -r crates crates.txt "$work/copy$j/"
-    if [ -d target ]; then cp -r target "$work/copy$j/target"; fi
+    mkdir "$work/copy$j/crates"
+    cp crates.txt "$work/copy$j/"
+    for crate in crates/*; do
+        mkdir "$work/copy$j/$crate"
+        cp -r "$crate"/[!o]* "$work/copy$j/$crate/"
+    done
 done
 for crate in "$@"; do
     half 0 "$crate" > "$work/said0" &

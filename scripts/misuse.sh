@@ -10,7 +10,6 @@ mkdir -p "$work/crates"
 for crate in faults symbols lists codes promises schemes; do
     cp -r "$top/crates/$crate" "$work/crates/$crate"
 done
-if [ -d "$top/target" ]; then cp -r "$top/target" "$work/target"; fi
 
 try() { # name, expected words, body
     mkdir -p "$work/crates/misuse/src"
@@ -25,16 +24,14 @@ misuse: schemes symbols lists
 LIST
     cat > "$work/crates/misuse/src/lib.rt" <<CODE
 use lists::Shifts;
-use lists::ShiftsList;
 use schemes::Draft;
 use schemes::Live;
 use symbols::Residues;
-use symbols::ResiduesKind;
 
 $3
 CODE
-    (cd "$work" && rt dev misuse 2>&1) > "$work/out"
-    said=$(grep -m1 "crates/misuse/src/lib.rt.*error" "$work/out" | sed 's|^.*misuse/src/lib.rt\(:[0-9]*:[0-9]*: error\)|lib.rt\1|')
+    (cd "$work/crates/misuse" && rt check 2>&1) > "$work/out"
+    said=$(grep -m1 "src/lib.rt:[0-9]*:[0-9]*: error" "$work/out" | sed 's|^[^:]*src/lib.rt|lib.rt|')
     case "$said" in
         *"$2"*) echo "$1: refused: $said" ;;
         *) echo "$1: NOT refused as expected"; cat "$work/out"; exit 1 ;;

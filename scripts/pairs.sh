@@ -3,7 +3,8 @@
 # Exits with 1 at the first difference.
 set -eu
 cd "$(dirname "$0")/.."
-mend=target/bin/mend
+mend=crates/mend/out/mend
+(cd crates/mend && rt run < stdin) > /dev/null 2>&1 || { echo "mend was not built"; exit 1; }
 work=$(mktemp -d)
 trap 'rm -rf "$work"' EXIT
 

@@ -1,5 +1,5 @@
 -- Systematic block codes over a ring of symbols, permutations of places, and attempts of permutation decoding.
--- A word is a list of symbols. `get_or w p 0` is the symbol of w at place p, places being numbered from 0.
+-- A word is a list of symbols. `slice_index w p` is the symbol of w at place p, places being numbered from 0.
 use Rattle.std.specs.Prelude.{◌≡◌, ℕ, zero, suc, ◌+◌, ◌-◌, ◌*◌, ◌/◌, ◌%◌, ◌^◌, ◌<◌, ◌≤◌, Bool, cond, List, [], ◌∷◌, ◌++◌, map, length, take, ◌==◌, slice_index}
 use Rattle.std.specs.List.{range_with_len, AllByRecursion as All}
 use Rattle.symbols.specs.Ring.{Ring, times, total}

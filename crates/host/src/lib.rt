@@ -31,9 +31,8 @@ fn refusal_answer(fault: Fault) -> u8
     REFUSED + fault.number()
 }
 
-// For C: the distance, or 100 and the number of the refusal, which leaves the output as it was.
-#[unsafe(no_mangle)]
-pub extern "C" fn dulvarech_correct(file: &[u8], block: &[u8], out: &mut [u8]) -> u8
+// The distance, or 100 and the number of the refusal, which leaves the output as it was. The crate `host_c` exports it to C.
+pub fn dulvarech_correct(file: &[u8], block: &[u8], out: &mut [u8]) -> u8
     ensures { HostAnswers file.now block.now out.old result out.new }
 {
     match correct_once(file, block, out) {

@@ -58,7 +58,7 @@ fn refused_schemes(rt: HostRuntime) -> Result<(), Fail> {
     let mut two = changed(12, 2);
     two[13] = 3;
     shows(&rt, heap, &two, &[0; 7], b"refused 12 1 0\n")?;
-    // two_power 4 with 5 information places has too many messages
+    // two-power 4 with 5 information places has too many messages
     let many = [
         0x50, 0x44, 0x53, 0, 1, 1, 4, 6, 5, 1, 1, 0, 1, 1, 1, 1, 1, 1, 1,
     ];

@@ -9,7 +9,7 @@ use Rattle.files.specs.Contents.{ListForm, table, shifts, multiplier, Contents}
 use Rattle.promises.specs.Scheme.{Plan, plan, Handed, handing, draft_refusal}
 use Rattle.promises.specs.Trial.{verdict}
 
--- the ring of a file's kind: residues b in family 0, else two_power w
+-- the ring of a file's kind: residues b in family 0, else two-power w
 abbrev pub ring_of : ℕ → ℕ → Ring
 ring_of family base = cond (family == 0) (residues base) (two_power base)
 

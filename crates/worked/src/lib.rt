@@ -25,7 +25,7 @@ pub struct Schemes {
     pub ternary: [u8; 29],
     pub ternary_damaged: [u8; 4],
     pub ternary_mended: [u8; 4],
-    // One information place, the row 23 and three shifts, under two_power 2 and under residues 4.
+    // One information place, the row 23 and three shifts, under two-power 2 and under residues 4.
     pub polynomials: [u8; 16],
     pub counting: [u8; 16],
     // One bit sent four times, with two shifts, and a block that is lost.
