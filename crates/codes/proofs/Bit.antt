@@ -1,7 +1,7 @@
 -- Masks against sets of places.
-use Rattle.std.proofs.Common.{◌≡◌, ℕ, zero, suc, ◌+◌, ◌-◌, ◌*◌, ◌/◌, ◌%◌, ◌^◌, ◌<◌, ◌≤◌, min, Bool, true, false, cond, eqb, ltb, List, [], ◌∷◌, ◌++◌, length, get_or, drop, sym, refl, ap, ◌∙◌, subst, mul_assoc, mul_comm, add-mul, one-mul, pow-suc, one-add, arith, eqb→eq, pow_pos, pow-add, ltb-false, le-ltb, lt-ltb}
+use Rattle.std.proofs.Common.{◌≡◌, ℕ, zero, suc, ◌+◌, ◌-◌, ◌*◌, ◌/◌, ◌%◌, ◌^◌, ◌<◌, ◌≤◌, min, Bool, true, false, cond, eqb, ltb, List, [], ◌∷◌, ◌++◌, length, get_or, drop, sym, refl, ap, ◌∙◌, subst, mul_assoc, add-mul, one-mul, pow-suc, one-add, arith, eqb→eq, pow_pos, pow-add, ltb-false, le-ltb, lt-ltb}
 use native.Mathlib.Nat.{mod-mod}
-use lib.Bits.{bit_and, bit_or, and_block, and_mask, and_mod, and_shr, and_step, and_zero_r, or_shifted}
+use lib.Bits.{bit_and, bit_or, and_block, and_mask, and_shr, and_step, and_zero_r, or_shifted}
 use Rattle.std.proofs.lemmas.Nat.{shr_split, mod_below, field_of, one_shl}
 use Rattle.std.proofs.lemmas.List.{drop_more}
 use Rattle.codes.specs.Code.{Clears}

@@ -3,7 +3,7 @@ use Rattle.std.proofs.Common.{◌≡◌, ℕ, ◌+◌, ◌-◌, ◌<◌, ◌≤�
 use Rattle.std.proofs.lemmas.List.{ext_get_or, length-take-le, get_or-take}
 use Rattle.std.proofs.lemmas.Bool.{cases_eq}
 use Rattle.std.proofs.lemmas.List.FromFn.{length-map-range_with_len}
-use Rattle.codes.specs.Code.{Code, check, codeword, Codeword, Symbols, distance, Permutation, moved, returned, candidate, Succeeds, Clears, Near}
+use Rattle.codes.specs.Code.{Code, check, codeword, Codeword, distance, Permutation, moved, returned, candidate, Clears, Near}
 use Rattle.codes.specs.Serviceable.{Serviceable, Decodes}
 use Rattle.codes.proofs.Words.{length-codeword, take-codeword, codeword-check}
 use Rattle.codes.proofs.Places.{triangle, distance-sym, differing, differing_rising, length-differing, agree, onto, moved_at, returned_moved, zero_same, distance-zero}

@@ -1,19 +1,18 @@
 -- Codewords are linear in the message: the tests of a trial, on unit messages and on weights, serve all codewords.
-use Rattle.std.proofs.Common.{◌≡◌, ℕ, zero, suc, ◌+◌, ◌-◌, ◌*◌, ◌<◌, ◌≤◌, Bool, true, false, cond, eqb, ◌⊎◌, List, [], ◌∷◌, map, length, get_or, take, sym, refl, ap, ◌∙◌, subst, ap₂, inl, inr, ⊎_elim, not-suc-le-zero, arith}
+use Rattle.std.proofs.Common.{◌≡◌, ℕ, zero, suc, ◌+◌, ◌-◌, ◌*◌, ◌<◌, ◌≤◌, cond, eqb, List, [], map, length, get_or, take, sym, refl, ap, ◌∙◌, subst, ap₂, ⊎_elim, arith}
 use native.Mathlib.Nat.{sub-zero}
-use Rattle.std.specs.List.{range_with_len, AllByRecursion as All}
+use Rattle.std.specs.List.{range_with_len}
 use Rattle.std.proofs.lemmas.List.{ext_get_or, length-take-le, get_or-take}
 use Rattle.std.proofs.lemmas.List.FromFn.{length-map-range_with_len, get_or-map-range_with_len}
 use Rattle.std.proofs.lemmas.Bool.{cases_eq, cases_lt, eq-eqb, ne_eqb, cond-true, cond-false}
 use Rattle.symbols.specs.Ring.{Ring, RingRules, plus, minus, times, total}
-use Rattle.symbols.proofs.Sums.{total_below, total_same, total_pick, total-zero, total_swap, total-plus, times-total, total-times, times_assoc, times-one, times_zero, zero-times, times_below, plus_times, plus_below, plus_assoc, plus-minus, plus-zero, plus_comm, zero-plus, minus_below, plus_cancel}
+use Rattle.symbols.proofs.Sums.{total_below, total_same, total_pick, total-zero, total_swap, total-plus, times-total, total-times, times_assoc, times-one, times_zero, zero-times, times_below, plus_times, plus_below, plus_assoc, plus-minus, plus-zero, plus_comm, zero-plus, plus_cancel}
 use Rattle.codes.specs.Code.{Code, term, check, codeword, Codeword, Symbols, distance, Permutation, moved, returned, unit, weight, Clears, candidate}
 use Rattle.codes.specs.Sets.{Rising}
 use Rattle.codes.specs.Serviceable.{Serviceable}
-use Rattle.codes.proofs.Words.{length-codeword, take-codeword, codeword-message, codeword-check}
-use Rattle.codes.proofs.Places.{onto, moved_at, distance-sym, distance_same, distance_other, distance_step, distance-le}
+use Rattle.codes.proofs.Words.{length-codeword, codeword-message, codeword-check}
+use Rattle.codes.proofs.Places.{onto, moved_at, distance_same, distance_other, distance_step, distance-le}
 use Rattle.codes.proofs.Wider.{widen}
-use Rattle.codes.proofs.Decoding.{codeword_long}
 
 -- a word that is 0 wherever two words agree weighs at most their distance
 lighter : (n : ℕ) (w c d : List ℕ) → ((p : ℕ) → p < n → get_or c p 0 ≡ get_or d p 0 → get_or w p 0 ≡ 0) → weight n w ≤ distance n c d

@@ -1,8 +1,8 @@
 -- Messages and the numbers that they stand for.
-use Rattle.std.proofs.Common.{◌≡◌, ℕ, zero, suc, ◌+◌, ◌-◌, ◌*◌, ◌/◌, ◌%◌, ◌^◌, ◌<◌, ◌≤◌, List, [], ◌∷◌, length, get_or, take, drop, set, sym, refl, ap, ◌∙◌, subst, ⊎_elim, mod-lt, mod-eq_of_lt, mul_assoc, suc-mul, mul_comm, pow-suc, div-one, arith, length-take}
+use Rattle.std.proofs.Common.{◌≡◌, ℕ, zero, suc, ◌+◌, ◌-◌, ◌*◌, ◌/◌, ◌%◌, ◌^◌, ◌<◌, ◌≤◌, List, [], ◌∷◌, length, get_or, take, drop, set, sym, refl, ap, ◌∙◌, ⊎_elim, mod-lt, mod-eq_of_lt, mul_assoc, suc-mul, mul_comm, pow-suc, div-one, arith}
 use native.Mathlib.Nat.{pow-zero, div-div-eq-div-mul, div-add-mod, add-mul-div_left, add-mul-mod_self_left}
 use Rattle.std.proofs.lemmas.List.{drop-set, drop_all, length-take-le}
-use Rattle.std.proofs.lemmas.Nat.{mul-le, div-mul-add, mod-mul-add, div_below}
+use Rattle.std.proofs.lemmas.Nat.{mul-le, div-mul-add, div_below}
 use Rattle.std.proofs.lemmas.Bool.{cases_eq}
 use Rattle.codes.specs.Code.{message, Symbols}
 

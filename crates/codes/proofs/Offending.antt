@@ -1,18 +1,18 @@
 -- A trial that finds no offender has found what it tests, and the other way round.
-use Rattle.std.proofs.Common.{◌≡◌, ℕ, zero, suc, ◌+◌, ◌-◌, ◌*◌, ◌^◌, ◌<◌, ◌≤◌, Bool, true, false, cond, not, ◌||◌, eqb, leb, ◌⊎◌, List, [], ◌∷◌, length, get_or, take, is_some, Some, None, Option, sym, refl, ap, ◌∙◌, subst, inl, inr, ⊎_elim, arith}
+use Rattle.std.proofs.Common.{◌≡◌, ℕ, zero, suc, ◌+◌, ◌-◌, ◌*◌, ◌^◌, ◌<◌, ◌≤◌, Bool, true, false, not, ◌||◌, eqb, leb, List, [], ◌∷◌, length, get_or, take, is_some, Some, None, Option, sym, refl, ap, ◌∙◌, subst, ⊎_elim, arith}
 use Rattle.std.proofs.lemmas.Bool.{true≢false, cases_eq, cases_lt, cases_Bool, eq-eqb, ne_eqb, eqb-true, eqb-false, cond-true, cond-false}
 use Rattle.std.proofs.lemmas.Bool.Decides.{nat_tests}
 use Rattle.std.proofs.lemmas.List.FromFn.{length-map-range_with_len}
 use Rattle.std.proofs.lemmas.List.{length-take-le, get_or-take}
 use Rattle.symbols.specs.Ring.{RingRules}
 use Rattle.codes.specs.Code.{Code, codeword, Codeword, Symbols, distance, weight, is_codeword, message, unit, Permutation, moved, Clears}
-use Rattle.codes.specs.Search.{least, least_with, first_not}
-use Rattle.codes.specs.Sets.{Rising, sets, clears, cleared, uncleared, FirstFailing}
+use Rattle.codes.specs.Search.{least}
+use Rattle.codes.specs.Sets.{Rising, clears, cleared, uncleared, FirstFailing}
 use Rattle.codes.specs.Offenders.{clashes, bad_place, bad_entry, light, unkept_unit, unkept}
 use Rattle.codes.proofs.Words.{length-codeword}
 use Rattle.codes.proofs.Places.{onto, moved_at, zero_same, distance-zero}
-use Rattle.codes.proofs.Decoding.{codeword_of_itself, codeword_long}
-use Rattle.codes.proofs.Linear.{Tested, codeword_below, unit_symbols}
+use Rattle.codes.proofs.Decoding.{codeword_of_itself}
+use Rattle.codes.proofs.Linear.{codeword_below, unit_symbols}
 use Rattle.codes.proofs.Found.{least-none, none-least, least_with-none, none-least_with, only_first}
 use Rattle.codes.proofs.Messages.{number, below_from, message_symbols, message-number, number_below, zeros_number, number_zeros}
 use Rattle.codes.proofs.Enumerated.{enumerates}

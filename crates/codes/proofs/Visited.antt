@@ -1,5 +1,5 @@
 -- A search through all sets of t of n places, in dictionary order, for one that has not the property P.
-use Rattle.std.proofs.Common.{◌≡◌, ℕ, zero, suc, ◌+◌, ◌-◌, ◌*◌, ◌^◌, ◌<◌, ◌≤◌, ◌⊎◌, List, [], ◌∷◌, ◌++◌, length, get_or, take, sym, refl, ap, ◌∙◌, subst, inl, inr, arith}
+use Rattle.std.proofs.Common.{◌≡◌, ℕ, suc, ◌-◌, ◌^◌, ◌<◌, ◌≤◌, ◌⊎◌, List, [], ◌∷◌, ◌++◌, length, sym, refl, ap, ◌∙◌, subst, inl, inr, arith}
 use Rattle.codes.specs.Sets.{Rising, SetOf, Before}
 use Rattle.codes.specs.Steps.{run, Last, Next, Missed, Skipped}
 use Rattle.codes.proofs.Order.{value, next_between, last_top, run_first, next_length, next_places, next_before, value_before, value_below, run_length, run_places}

@@ -1,5 +1,5 @@
 -- The rules of the matrices, and their product bit by bit, by tests over all operands.
-use Rattle.std.specs.Prelude.{◌≡◌, ℕ, ◌+◌, ◌*◌, ◌/◌, ◌%◌, ◌^◌, ◌<◌, bit_and, bit_or, bit_xor, nat_eq}
+use Rattle.std.specs.Prelude.{◌≡◌, ℕ, ◌*◌, ◌/◌, ◌%◌, ◌^◌, ◌<◌, bit_and, bit_or, bit_xor, nat_eq}
 use Rattle.std.proofs.Common.{eqb→eq}
 use Rattle.symbols.specs.Ring.{RingRules}
 use Rattle.symbols.specs.Tests.{at₂}

@@ -1,5 +1,5 @@
 -- From what the steps of a call answer to the refusal and the call of correct that the file itself means.
-use Rattle.std.proofs.Common.{◌≡◌, ℕ, ◌≤◌, List, Some, None, Ok, Err, Option, Result, sym, ap, ◌∙◌, subst, arith}
+use Rattle.std.proofs.Common.{◌≡◌, ℕ, ◌≤◌, List, None, Ok, Err, Option, Result, sym, ap, ◌∙◌, subst, arith}
 use Rattle.std.specs.Option.{option_or}
 use Rattle.faults.specs.Refusal.{Refusal}
 use Rattle.symbols.specs.Ring.{Ring}
@@ -12,7 +12,7 @@ use Rattle.promises.specs.Scheme.{Plan, plan, Handed, handing, Scheme, scheme, C
 use Rattle.promises.specs.Calls.{Correcting, Corrects, refuses, finds, loses}
 use Rattle.promises.specs.Promise.{Promise}
 use Rattle.opening.specs.Opening.{ring_of, kind_refusal, meaning_of, list_refusal, handed_of, plan_of, live_refusal, contents_refusal}
-use Rattle.host.specs.Hosted.{way_refusal, scheme_in, call_of, Called}
+use Rattle.host.specs.Hosted.{way_refusal, scheme_in, call_of}
 
 -- a file that is accepted and says x, with a kind of ring R and a list of meaning M that are not refused
 pub record Opened (file : List ℕ) (x : Contents) (R : Ring) (M : Meaning) : Type 0 where

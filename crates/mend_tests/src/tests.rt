@@ -37,11 +37,11 @@ fn inputs_without_a_file(rt: HostRuntime) -> Result<(), Fail> {
     let heap = rt.alloc();
     let none: [u8; 0] = [];
     let empty = answer(heap, &none)?;
-    assert!(rt; empty.as_slice() == b"refused 18 0 0\n");
+    assert!(rt; empty.as_slice() == b"refused 18 0 0\n".as_slice());
     let one = answer(heap, &[0])?;
-    assert!(rt; one.as_slice() == b"refused 18 0 0\n");
+    assert!(rt; one.as_slice() == b"refused 18 0 0\n".as_slice());
     let cut = answer(heap, &[0, 26, 0x50, 0x44, 0x53])?;
-    assert!(rt; cut.as_slice() == b"refused 18 0 0\n");
+    assert!(rt; cut.as_slice() == b"refused 18 0 0\n".as_slice());
     Ok(())
 }
 

@@ -1,5 +1,5 @@
 -- From the contents of a file to what mend prints.
-use Rattle.std.proofs.Common.{◌≡◌, ℕ, List, Some, None, vec_items, Option, sym, refl, ap, ◌∙◌, subst, MatchOption}
+use Rattle.std.proofs.Common.{◌≡◌, ℕ, List, Some, None, Option, sym, ap, ◌∙◌, subst, MatchOption}
 use Rattle.std.specs.Option.{option_or}
 use Rattle.faults.specs.Refusal.{Refusal}
 use Rattle.symbols.specs.Ring.{Ring}

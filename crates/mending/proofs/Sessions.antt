@@ -1,13 +1,12 @@
 -- What a session leaves: a run of calls with the trial's rows, kind and list, whose blocks are the well-formed ones of the input.
 use Rattle.std.proofs.Common.{◌≡◌, ℕ, zero, suc, ◌+◌, ◌*◌, ◌/◌, ◌%◌, ◌<◌, ◌≤◌, Bool, true, false, cond, not, ◌&&◌, eqb, ltb, List, [], ◌∷◌, ◌++◌, length, is_some, Some, None, Option, sym, refl, ap, ◌∙◌, subst, ap₂, arith}
 use Rattle.std.specs.Option.{option_map}
-use Rattle.std.proofs.lemmas.Bool.{true≢false, eq-eqb, cases_Bool}
+use Rattle.std.proofs.lemmas.Bool.{true≢false, eq-eqb}
 use Rattle.std.proofs.lemmas.Nat.{mul-le, div-add-mod'}
-use Rattle.std.proofs.lemmas.Bool.Decides.{nat_tests}
-use Rattle.faults.specs.Refusal.{Refusal, refuse}
+use Rattle.faults.specs.Refusal.{refuse}
 use Rattle.promises.specs.Scheme.{Scheme, Handed, Counts, none}
 use Rattle.promises.specs.Trial.{excess}
-use Rattle.promises.specs.Calls.{Correcting, Call, correct, fits, objection, Runs}
+use Rattle.promises.specs.Calls.{Correcting, Call, correct, fits, Runs}
 use Rattle.promises.specs.Promise.{Same, Faithful, blocks, formed, Counting, Promise}
 use Rattle.mending.specs.Input.{piece, pieces, whole, well_formed}
 use Rattle.mending.specs.Lines.{total}

@@ -1,5 +1,5 @@
 -- The lines that mend prints.
-use Rattle.std.specs.Prelude.{ℕ, ◌+◌, ◌%◌, cond, List, [], ◌∷◌, ◌++◌, map, Ok, Err, codes, decimal, Result, ◌==◌, nat_lt}
+use Rattle.std.specs.Prelude.{ℕ, ◌+◌, ◌%◌, cond, List, ◌++◌, map, Ok, Err, codes, decimal, Result, ◌==◌, nat_lt}
 use Rattle.faults.specs.Refusal.{Refusal}
 use Rattle.promises.specs.Scheme.{Counts}
 use Rattle.promises.specs.Calls.{Correcting}

@@ -2,10 +2,9 @@
 use Rattle.std.specs.Prelude.{◌≡◌, ℕ, zero, suc, ◌+◌, List, [], ◌∷◌, ◌++◌, length, Option, MatchOption}
 use Rattle.std.specs.Option.{option_or}
 use Rattle.faults.specs.Refusal.{Refusal}
-use Rattle.files.specs.Contents.{Contents}
 use Rattle.files.specs.Layout.{contents_of}
 use Rattle.files.specs.Limits.{file_refusal}
-use Rattle.promises.specs.Scheme.{Plan, Scheme, scheme, Handed, Counts, none}
+use Rattle.promises.specs.Scheme.{Scheme, scheme, Handed, Counts, none}
 use Rattle.promises.specs.Calls.{Correcting, Call, correct, Corrects}
 use Rattle.promises.specs.Promise.{Counting}
 use Rattle.opening.specs.Opening.{contents_refusal, handed_of, plan_of}

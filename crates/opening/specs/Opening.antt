@@ -1,5 +1,5 @@
 -- What the contents of a scheme file mean: a kind, a list, the numbers of a draft; and which refusal keeps them from going live.
-use Rattle.std.specs.Prelude.{ℕ, ◌/◌, ◌%◌, Bool, cond, ◌&&◌, List, length, Some, None, Option, ◌==◌, nat_le}
+use Rattle.std.specs.Prelude.{ℕ, ◌/◌, ◌%◌, cond, ◌&&◌, length, Some, None, Option, ◌==◌, nat_le}
 use Rattle.std.specs.Option.{option_or}
 use Rattle.faults.specs.Refusal.{Refusal, refuse}
 use Rattle.symbols.specs.Ring.{Ring, residues}

@@ -1,10 +1,10 @@
 -- Attempts with rings that agree below q and permutations that agree below n are the same.
-use Rattle.std.proofs.Common.{◌≡◌, ℕ, zero, suc, ◌+◌, ◌-◌, ◌*◌, ◌%◌, ◌<◌, ◌≤◌, cond, eqb, List, [], ◌∷◌, ◌++◌, map, length, get_or, take, sym, refl, ap, ◌∙◌, subst, ap₂, mod-lt, arith}
+use Rattle.std.proofs.Common.{◌≡◌, ℕ, zero, suc, ◌+◌, ◌-◌, ◌*◌, ◌%◌, ◌<◌, ◌≤◌, cond, eqb, List, ◌++◌, map, get_or, take, sym, refl, ap, ◌∙◌, subst, ap₂, mod-lt, arith}
 use Rattle.std.specs.List.{range_with_len}
 use Rattle.std.proofs.lemmas.List.{ext_get_or}
 use Rattle.std.proofs.lemmas.List.FromFn.{length-map-range_with_len, get_or-map-range_with_len}
 use Rattle.symbols.specs.Ring.{Ring, plus, times, total}
-use Rattle.codes.specs.Code.{Code, code, term, check, codeword, Codeword, Symbols, distance, Permutation, source, moved, returned, candidate, Succeeds}
+use Rattle.codes.specs.Code.{Code, code, term, check, codeword, distance, Permutation, source, moved, returned, candidate, Succeeds}
 
 -- lists made by functions that agree below n are equal
 map_same : (f g : ℕ → ℕ) (n : ℕ) → ((p : ℕ) → p < n → f p ≡ g p) → map f (range_with_len 0 n) ≡ map g (range_with_len 0 n)

@@ -1,19 +1,16 @@
 -- The promise of a live scheme, by induction over runs.
-use Rattle.std.proofs.Common.{◌≡◌, ℕ, zero, suc, ◌+◌, ◌-◌, ◌*◌, ◌<◌, ◌≤◌, Bool, true, false, cond, not, ◌&&◌, eqb, ltb, ◌⊎◌, List, [], ◌∷◌, length, get_or, is_some, Some, None, Ok, Err, Option, Result, sym, refl, ap, ◌∙◌, subst, inl, inr, ⊎_elim, add-zero, arith, MatchOption}
-use Rattle.std.specs.Option.{option_or}
+use Rattle.std.proofs.Common.{◌≡◌, ℕ, zero, suc, ◌<◌, ◌≤◌, true, cond, List, [], ◌∷◌, length, Some, None, Ok, Err, Option, Result, sym, refl, ap, ◌∙◌, subst, arith, MatchOption}
 use Rattle.codes.proofs.Found.{none-some}
-use Rattle.std.proofs.lemmas.List.{ext_get_or}
-use Rattle.std.proofs.lemmas.Bool.{cases_eq, cases_lt, cases_Bool, and_parts, and_from, lt-ltb, le-ltb, ltb-true, eqb-true, true≢false, false≢true, cond-true, cond-false}
-use Rattle.symbols.specs.Ring.{Ring, RingRules}
-use Rattle.faults.specs.Refusal.{Refusal, refuse}
+use Rattle.std.proofs.lemmas.Bool.{and_parts, eqb-true, true≢false, cond-true, cond-false}
+use Rattle.faults.specs.Refusal.{Refusal}
 use Rattle.codes.specs.Code.{Code, code, codeword, Codeword, Symbols, Permutation, distance, candidate, Succeeds, First, Near}
 use Rattle.codes.specs.Serviceable.{Serviceable}
 use Rattle.codes.proofs.Places.{zero_same, distance-zero}
 use Rattle.codes.proofs.Decoding.{codeword_long, decodes, nearest}
 use Rattle.promises.specs.Scheme.{Plan, Scheme, scheme, Handed, Counts, none}
 use Rattle.promises.specs.Trial.{unfit, fails}
-use Rattle.promises.specs.Calls.{Encoding, Correcting, Call, encode, correct, close, code_of, fits, objection, Encodes, found, missed, Finds, Loses, Refuses, reason, Corrects, refuses, finds, loses, Does, Runs}
-use Rattle.promises.specs.Promise.{formed, blocks, WellFormed, Same, Faithful, History, Within, Served, Another, HowMany, nothing, one_more, no_more, Summed, empty, adds, skips, Counting, Encoded, Promise, Passed, Law}
+use Rattle.promises.specs.Calls.{Encoding, Correcting, Call, encode, correct, close, code_of, fits, objection, Encodes, found, missed, Finds, Loses, reason, Corrects, refuses, finds, loses, Runs}
+use Rattle.promises.specs.Promise.{formed, blocks, Same, Faithful, Within, Served, nothing, one_more, no_more, empty, adds, skips, Counting, Encoded, Promise, Passed, Law}
 use Rattle.promises.proofs.Trying.{first_none, second_none, fit_order, fit_size, fit_long, fit_permutes, passes_serves}
 use Rattle.promises.proofs.Refusing.{accepted, formed_at, unformed_at, fits_from}
 use Rattle.promises.proofs.Alike.{codeword_same, candidate_same, succeeds_same}

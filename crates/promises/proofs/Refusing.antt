@@ -1,14 +1,14 @@
 -- What refusals 13 to 16 say, and the three things that a call of correct can do.
-use Rattle.std.proofs.Common.{◌≡◌, ℕ, zero, suc, ◌+◌, ◌-◌, ◌*◌, ◌<◌, ◌≤◌, Bool, true, false, cond, not, ◌&&◌, eqb, ltb, leb, ◌⊎◌, List, [], ◌∷◌, length, get_or, is_some, Some, None, Ok, Err, Option, sym, refl, ap, ◌∙◌, inl, inr, ⊎_elim, arith}
+use Rattle.std.proofs.Common.{◌≡◌, ℕ, ◌-◌, ◌*◌, ◌<◌, ◌≤◌, Bool, true, false, cond, not, ◌&&◌, ltb, leb, List, length, get_or, is_some, Some, None, Err, Option, sym, refl, arith}
 use Rattle.std.specs.Option.{option_map, option_or}
-use Rattle.std.proofs.lemmas.Bool.{cases_Bool, true≢false, and_from, eq-eqb, and_parts, lt-ltb, le-ltb, ltb-true, eqb-true, cond-true, cond-false}
+use Rattle.std.proofs.lemmas.Bool.{true≢false, and_from, eq-eqb, and_parts, lt-ltb, le-ltb, eqb-true, cond-true, cond-false}
 use Rattle.std.proofs.lemmas.Bool.Decides.{nat_tests}
 use Rattle.faults.specs.Refusal.{Refusal, refuse}
 use Rattle.codes.specs.Code.{Symbols}
 use Rattle.codes.proofs.Found.{none-least, least-none}
 use Rattle.promises.specs.Scheme.{Scheme, Handed, Counts}
 use Rattle.promises.specs.Trial.{excess}
-use Rattle.promises.specs.Calls.{Correcting, fits, sized, objection, reason, Finds, Loses, Refuses, Corrects, refuses, finds, loses}
+use Rattle.promises.specs.Calls.{Correcting, fits, sized, objection, reason, Finds, Loses, Corrects, refuses, finds, loses}
 use Rattle.promises.specs.Promise.{formed}
 
 -- what follows where refusals 13 to 15 say nothing

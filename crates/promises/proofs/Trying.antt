@@ -1,16 +1,14 @@
 -- What a trial finds none of, and that it finds nothing exactly where code and list serve.
-use Rattle.std.proofs.Common.{◌≡◌, ℕ, ◌-◌, ◌*◌, ◌<◌, ◌≤◌, Bool, true, false, cond, not, ◌&&◌, eqb, List, length, Some, None, Option, sym, refl, ap, ◌∙◌, subst, ⊎_elim, arith}
+use Rattle.std.proofs.Common.{◌≡◌, ℕ, ◌-◌, ◌*◌, ◌<◌, ◌≤◌, Bool, true, false, cond, ◌&&◌, eqb, length, Some, None, Option, sym, refl, ap, ◌∙◌}
 use Rattle.std.specs.Option.{option_map, option_or}
-use Rattle.std.proofs.lemmas.Bool.{true≢false, cases_Bool, eqb-true, cond-false}
+use Rattle.std.proofs.lemmas.Bool.{true≢false, eqb-true}
 use Rattle.symbols.specs.Ring.{RingRules}
-use Rattle.faults.specs.Refusal.{Refusal}
 use Rattle.codes.specs.Code.{Permutation}
-use Rattle.codes.specs.Sets.{bits}
 use Rattle.codes.proofs.Found.{none-some}
-use Rattle.codes.proofs.Linear.{Tested, serviceable, tested_from, room}
+use Rattle.codes.proofs.Linear.{serviceable, tested_from, room}
 use Rattle.codes.proofs.Offending.{all_permute, heavy_from, light_none, keeps_from, unkept_none, cleared_from, cleared_none}
 use Rattle.promises.specs.Scheme.{Plan, Handed, code_of}
-use Rattle.promises.specs.Trial.{mismatch, bad_row, bad_list, no_permutation, light_message, not_kept, not_cleared, unfit, fails, verdict, Serves}
+use Rattle.promises.specs.Trial.{mismatch, bad_row, bad_list, no_permutation, light_message, not_kept, unfit, fails, Serves}
 
 pub mapped_none : {A B : Type 0} (f : A → B) (o : Option A) → option_map f o ≡ None → o ≡ None
 mapped_none f None e = refl

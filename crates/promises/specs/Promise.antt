@@ -1,7 +1,7 @@
 -- The promise of a live scheme, over all runs of calls.
 -- To read it: `(w : A) → P` says P of every w, `(w : A) × P` that there is a w with P, `P → ⊥` that P fails, `cond b x y` is x where b is true and else y,
 -- `x ∷ xs` a list with its first element, `Ok a` an answer and `Err r` a refusal. A word is a list of symbols.
-use Rattle.std.specs.Prelude.{◌≡◌, ℕ, ◌+◌, ◌-◌, ◌*◌, ◌<◌, ◌≤◌, Bool, true, cond, not, ◌&&◌, List, [], ◌∷◌, length, is_some, Some, None, Ok, Err, ◌≢◌, nat_lt}
+use Rattle.std.specs.Prelude.{◌≡◌, ℕ, ◌+◌, ◌<◌, Bool, true, cond, not, ◌&&◌, List, [], ◌∷◌, length, is_some, Some, None, Ok, Err, ◌≢◌, nat_lt}
 use Rattle.symbols.specs.Ring.{RingRules}
 use Rattle.faults.specs.Refusal.{Refusal, refuse}
 use Rattle.codes.specs.Code.{Codeword, codeword, distance, Near, First}

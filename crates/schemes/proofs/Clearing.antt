@@ -1,8 +1,8 @@
 -- The search by masks finds the first set that no permutation clears.
-use Rattle.std.proofs.Common.{◌≡◌, ℕ, ◌<◌, ◌≤◌, Bool, true, false, List, length, get_or, Some, None, Option, sym, refl, ap, ◌∙◌, subst, ⊎_elim, arith, MatchOption}
+use Rattle.std.proofs.Common.{◌≡◌, ℕ, ◌<◌, true, false, List, get_or, Some, None, Option, sym, ap, ◌∙◌, ⊎_elim, arith, MatchOption}
 use Rattle.std.specs.Option.{option_map}
 use Rattle.std.proofs.lemmas.Bool.{cases_Bool}
-use Rattle.codes.specs.Sets.{SetOf, Before, bits, cleared, uncleared, FirstFailing}
+use Rattle.codes.specs.Sets.{SetOf, Before, bits, cleared, uncleared}
 use Rattle.codes.specs.Steps.{MaskOf, Missed}
 use Rattle.codes.proofs.Bit.{clears_of, of_clears}
 use Rattle.codes.proofs.Enumerated.{enumerates}

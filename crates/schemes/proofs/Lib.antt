@@ -1,5 +1,3 @@
 mod Bounds
 mod Clearing
-mod Taking
-mod Opening
-mod Summing
+mod Shuffling

@@ -1,5 +1,5 @@
 -- What the ring rules give of plus, times and total, for any numbers: the rules hold with no bound, but for the neutral ones.
-use Rattle.std.proofs.Common.{◌≡◌, ℕ, zero, suc, ◌+◌, ◌-◌, ◌*◌, ◌%◌, ◌<◌, ◌≤◌, sym, refl, ap, ◌∙◌, subst, ap₂, inl, inr, ⊎_elim, not-suc-le-zero, mod-lt, mod-eq_of_lt, arith}
+use Rattle.std.proofs.Common.{◌≡◌, ℕ, zero, suc, ◌%◌, ◌<◌, sym, refl, ap, ◌∙◌, ap₂, ⊎_elim, not-suc-le-zero, mod-lt, mod-eq_of_lt, arith}
 use native.Mathlib.Nat.{zero-mod}
 use Rattle.std.proofs.lemmas.Bool.{cases_eq}
 use Rattle.symbols.specs.Ring.{Ring, RingRules, plus, minus, times, total}

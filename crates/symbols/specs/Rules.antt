@@ -1,5 +1,5 @@
 -- The ring rules by one computed test.
-use Rattle.std.specs.Prelude.{ℕ, zero, suc, ◌+◌, ◌<◌, ◌≤◌, Bool, T, List, [], ◌∷◌, ◌==◌, nat_le, nat_lt}
+use Rattle.std.specs.Prelude.{ℕ, ◌<◌, Bool, T, List, [], ◌∷◌, ◌==◌, nat_le, nat_lt}
 use Rattle.std.proofs.Common.{eqb→eq, ltb→lt, leb→le}
 use Rattle.symbols.specs.Ring.{Ring, RingRules}
 use Rattle.symbols.specs.Tests.{conj, pick, all, all₂, all₃, at, at₂, at₃}

@@ -1,6 +1,6 @@
 -- A rule at every number below a bound, by one test that is computed.
-use Rattle.std.specs.Prelude.{◌≡◌, ℕ, zero, suc, ◌+◌, ◌<◌, ◌≤◌, Bool, true, false, T, ◌⊎◌, List, [], ◌∷◌, slice_index_or, refl}
-use Rattle.std.proofs.Common.{ap, subst, sym, inl, inr, not-suc-le-zero, arith}
+use Rattle.std.specs.Prelude.{◌≡◌, ℕ, zero, suc, ◌<◌, Bool, true, false, T, ◌⊎◌, List, [], ◌∷◌, slice_index_or}
+use Rattle.std.proofs.Common.{subst, sym, inl, inr, not-suc-le-zero, arith}
 
 abbrev pub both : Bool → Bool → Bool
 both true b = b

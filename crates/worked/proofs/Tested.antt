@@ -1,17 +1,17 @@
 -- A call of correct by computing: which attempt succeeds first, or that none does.
-use Rattle.std.proofs.Common.{◌≡◌, ℕ, ◌+◌, ◌<◌, ◌≤◌, Bool, true, false, not, ◌&&◌, leb, List, is_some, Some, None, Ok, Err, Option, sym, refl, ap, ◌∙◌, subst, ⊎_elim, arith, MatchOption}
+use Rattle.std.proofs.Common.{◌≡◌, ℕ, ◌<◌, ◌≤◌, Bool, true, not, ◌&&◌, leb, List, is_some, Some, None, Ok, Err, Option, sym, refl, ap, ◌∙◌, arith}
 use Rattle.std.proofs.lemmas.Bool.{true≢false, and_parts, and_from}
 use Rattle.std.proofs.lemmas.Option.{MatchOption-at_some, MatchOption-at_none}
 use Rattle.std.proofs.lemmas.Bool.Decides.{nat_tests}
 use Rattle.faults.specs.Refusal.{refuse}
 use Rattle.symbols.specs.Ring.{RingRules}
-use Rattle.codes.specs.Code.{Code, Codeword, Symbols, Permutation, distance, is_codeword, candidate, Succeeds, First}
+use Rattle.codes.specs.Code.{Code, Symbols, distance, is_codeword, candidate, Succeeds, First}
 use Rattle.codes.specs.Offenders.{bad_place}
 use Rattle.codes.specs.Search.{least}
 use Rattle.codes.proofs.Found.{finds_first}
 use Rattle.codes.proofs.Linear.{candidate_symbols}
 use Rattle.codes.proofs.Offending.{permutes_from, clash_none, codeword_by_test, test_by_codeword}
-use Rattle.promises.specs.Scheme.{Plan, Scheme, scheme, Handed, Counts, none}
+use Rattle.promises.specs.Scheme.{Plan, Scheme, scheme, Handed, none}
 use Rattle.promises.specs.Calls.{Correcting, code_of, objection, reason, Corrects, finds, loses, found, missed}
 use Rattle.promises.specs.Trial.{verdict}
 use Rattle.promises.specs.Promise.{Promise}

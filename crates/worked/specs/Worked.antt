@@ -1,5 +1,5 @@
 -- What becomes of the worked schemes, by the definitions of the calls.
-use Rattle.std.specs.Prelude.{◌≡◌, ℕ, List, [], ◌∷◌, Some, None, Ok, Err, Option}
+use Rattle.std.specs.Prelude.{◌≡◌, ℕ, List, [], ◌∷◌, Some, None, Ok, Err}
 use Rattle.faults.specs.Refusal.{refuse}
 use Rattle.promises.specs.Scheme.{draft_refusal}
 use Rattle.host.specs.Hosted.{way_refusal, Called}

@@ -1,12 +1,11 @@
-use Rattle.std.proofs.Common.{◌≡◌, ℕ, ◌≤◌, List, Some, None, Ok, Err, sym, refl, ap, ◌∙◌, subst, inl, inr, arith}
+use Rattle.std.proofs.Common.{◌≡◌, ◌≤◌, Some, None, Ok, Err, refl, inl, inr, arith}
 use Rattle.std.proofs.lemmas.Result.{err_from_is_err_and}
-use Rattle.faults.specs.Refusal.{Refusal, refusal}
+use Rattle.faults.specs.Refusal.{refusal}
 use Rattle.files.specs.Held.{contents}
 use Rattle.opening.specs.Held.{ring_held, meaning_held}
 use Rattle.promises.specs.Scheme.{none}
-use Rattle.promises.specs.Calls.{Corrects}
 use Rattle.schemes.specs.Told.{kept, tallied}
-use Rattle.host.specs.Hosted.{way_refusal, scheme_in, call_of, Called}
+use Rattle.host.specs.Hosted.{scheme_in, call_of}
 use Rattle.host.proofs.Ways.{Opened, handed_by, call_by, way_is, call_is, promise_is, stays, near}
 use Rattle.host.proofs.correct_once.Goals as goal
 

@@ -1,4 +1,4 @@
-use Rattle.std.proofs.Common.{◌≡◌, ◌*◌, ◌/◌, ◌%◌, ◌^◌, ◌<◌, sym, ap, ◌∙◌, mod-lt, arith}
+use Rattle.std.proofs.Common.{◌≡◌, ◌*◌, ◌/◌, ◌%◌, ◌^◌, sym, ap, ◌∙◌, mod-lt, arith}
 use Rattle.lists.proofs.Powers.{reduced, even_turn, odd_turn, last}
 use Rattle.lists.proofs.power_times.Goals as goal
 use Rattle.lists.proofs.power_times.Goals.{then-rest-eq1, else-rest-eq1}

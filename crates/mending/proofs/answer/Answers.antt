@@ -1,4 +1,4 @@
-use Rattle.std.proofs.Common.{◌≡◌, ℕ, List, Some, None, vec_items, sym, ap, ◌∙◌, subst}
+use Rattle.std.proofs.Common.{◌≡◌, ℕ, List, Some, None, vec_items, ap, ◌∙◌, subst}
 use Rattle.std.proofs.lemmas.Result.{IfOk-weaker}
 use Rattle.faults.specs.Refusal.{refusal}
 use Rattle.symbols.specs.Ring.{Ring}
@@ -10,7 +10,7 @@ use Rattle.files.specs.Limits.{file_refusal}
 use Rattle.promises.specs.Scheme.{handing}
 use Rattle.opening.specs.Held.{ring_held, meaning_held}
 use Rattle.schemes.specs.Told.{kept}
-use Rattle.mending.specs.Input.{scheme_file, block_bytes}
+use Rattle.mending.specs.Input.{scheme_file}
 use Rattle.mending.specs.Lines.{refused_line}
 use Rattle.mending.specs.Printed.{Printed, Reported}
 use Rattle.mending.proofs.Opened.{refusal_of, report_of, refused_so}

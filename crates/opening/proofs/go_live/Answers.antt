@@ -1,8 +1,8 @@
-use Rattle.std.proofs.Common.{◌≡◌, Some, Option, sym, ap, ◌∙◌, subst, MatchResult}
+use Rattle.std.proofs.Common.{Some, Option, sym, ap, ◌∙◌}
 use Rattle.std.specs.Option.{option_or}
 use Rattle.std.proofs.lemmas.Result.{err_from_is_err_and}
 use Rattle.faults.specs.Refusal.{Refusal, refusal}
-use Rattle.promises.specs.Scheme.{Plan, plan, Handed, handing, draft_refusal}
+use Rattle.promises.specs.Scheme.{Plan, plan, Handed, handing}
 use Rattle.promises.specs.Trial.{verdict}
 use Rattle.opening.proofs.go_live.Goals as goal
 

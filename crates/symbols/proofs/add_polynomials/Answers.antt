@@ -1,4 +1,4 @@
-use Rattle.std.proofs.Common.{◌*◌, ◌%◌, ◌^◌, get_or, arith, rules}
+use Rattle.std.proofs.Common.{◌*◌, ◌%◌, ◌^◌, get_or, arith}
 use Rattle.std.proofs.lemmas.Nat.{one_shl}
 use Rattle.symbols.specs.Polynomials.{two_power}
 use Rattle.symbols.proofs.Rows.{written_more, written_all}

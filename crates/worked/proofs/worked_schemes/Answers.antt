@@ -1,6 +1,6 @@
-use Rattle.std.proofs.Common.{◌≡◌, ◌<◌, refl, arith, lit<, lit≤}
+use Rattle.std.proofs.Common.{refl, lit<, lit≤}
 use Rattle.symbols.specs.Families.{residue_rules}
-use Rattle.worked.specs.Worked.{Worked, four, seven}
+use Rattle.worked.specs.Worked.{four, seven}
 use Rattle.worked.proofs.Tested.{called_finds, called_loses}
 use Rattle.worked.proofs.worked_schemes.Goals as goal
 

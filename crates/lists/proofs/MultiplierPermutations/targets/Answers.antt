@@ -1,4 +1,4 @@
-use Rattle.std.proofs.Common.{◌≡◌, ℕ, ◌+◌, ◌*◌, ◌/◌, ◌%◌, ◌^◌, ◌<◌, sym, ap, ◌∙◌, ap₂, arith}
+use Rattle.std.proofs.Common.{◌≡◌, ℕ, ◌+◌, ◌*◌, ◌/◌, ◌%◌, ◌^◌, ap, ◌∙◌, ap₂, arith}
 use Rattle.lists.specs.Meaning.{Meaning, multiplied}
 use Rattle.lists.proofs.Replies.{replied, asked_more, multiple_more}
 use Rattle.lists.proofs.MultiplierPermutations.targets.Goals as goal

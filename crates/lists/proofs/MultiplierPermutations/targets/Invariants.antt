@@ -1,4 +1,4 @@
-use Rattle.std.proofs.Common.{◌≡◌, ◌*◌, ◌/◌, ◌%◌, ◌^◌, ◌<◌}
+use Rattle.std.proofs.Common.{◌≡◌, ◌*◌, ◌/◌, ◌%◌, ◌^◌}
 use Rattle.lists.specs.Meaning.{multiplied}
 use Rattle.lists.proofs.Replies.{Asked}
 use Rattle.lists.proofs.MultiplierPermutations.targets.Given as goal

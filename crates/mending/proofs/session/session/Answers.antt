@@ -1,11 +1,11 @@
-use Rattle.std.proofs.Common.{◌≡◌, ℕ, ◌+◌, ◌<◌, ◌≤◌, List, ◌∷◌, ◌++◌, length, vec_items, sym, refl, ap, ◌∙◌, subst, arith}
+use Rattle.std.proofs.Common.{◌≡◌, ℕ, ◌+◌, List, ◌∷◌, ◌++◌, length, vec_items, ap, ◌∙◌, subst, arith}
 use Rattle.promises.specs.Scheme.{Scheme, Handed, handing, Counts}
-use Rattle.promises.specs.Calls.{Call, correct}
+use Rattle.promises.specs.Calls.{correct}
 use Rattle.schemes.specs.Told.{kept, tallied}
 use Rattle.mending.specs.Input.{piece, pieces}
 use Rattle.mending.specs.Lines.{total}
 use Rattle.mending.specs.Printed.{Added, Session}
-use Rattle.mending.proofs.Sessions.{piece_start, session_none, session_more, reported}
+use Rattle.mending.proofs.Sessions.{piece_start, session_more, reported}
 use Rattle.mending.proofs.session.session.Goals as goal
 
 added_as : (S S' : Scheme) (h : Handed) (number : ℕ) (v v' : List ℕ) (c after : Counts) (before text : List ℕ) → S ≡ S' → v ≡ v' → Added S h number v c after before text → Added S' h number v' c after before text

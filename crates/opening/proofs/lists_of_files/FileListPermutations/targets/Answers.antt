@@ -1,4 +1,4 @@
-use Rattle.std.proofs.Common.{◌≡◌, sym, ap, ◌∙◌}
+use Rattle.std.proofs.Common.{sym, ap, ◌∙◌}
 use Rattle.lists.specs.Meaning.{reply}
 use Rattle.opening.specs.Held.{meaning_held}
 use Rattle.opening.proofs.lists_of_files.FileListPermutations.targets.Goals as goal

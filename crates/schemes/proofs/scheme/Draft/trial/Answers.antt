@@ -1,8 +1,8 @@
-use Rattle.std.proofs.Common.{◌≡◌, ℕ, ◌<◌, ◌≤◌, true, false, is_ok, IfOk, None, Ok, Err, Result, sym, refl, ap, ◌∙◌, subst, arith}
+use Rattle.std.proofs.Common.{◌≡◌, ◌<◌, true, is_ok, IfOk, None, Ok, Err, Result, sym, refl, ◌∙◌, subst, arith}
 use Rattle.std.proofs.lemmas.Bool.{false≢true}
 use Rattle.symbols.specs.Ring.{RingRules}
 use Rattle.codes.proofs.Found.{none-some}
-use Rattle.promises.specs.Scheme.{Plan, plan, Handed, handing, Scheme}
+use Rattle.promises.specs.Scheme.{Plan, plan, Handed, handing}
 use Rattle.promises.specs.Trial.{unfit, fails, Serves, Exactly}
 use Rattle.promises.specs.Promise.{Promise}
 use Rattle.promises.proofs.Promised.{law}

@@ -1,4 +1,4 @@
-use Rattle.std.proofs.Common.{◌≡◌, sym, ap, ◌∙◌, arith, below_more}
+use Rattle.std.proofs.Common.{arith, below_more}
 use Rattle.schemes.proofs.scheme.attempting.first_success.Goals as goal
 
 pub loop-i-preserved : goal.loop-i-preserved

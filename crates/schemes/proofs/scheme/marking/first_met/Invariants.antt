@@ -1,4 +1,4 @@
-use Rattle.std.proofs.Common.{◌≡◌, ℕ, ◌-◌, ◌^◌, ◌≤◌, List, length, take, drop}
+use Rattle.std.proofs.Common.{◌≡◌, ℕ, ◌-◌, ◌^◌, List, length, take}
 use Rattle.codes.specs.Sets.{SetOf, Before}
 use Rattle.codes.specs.Steps.{Missed}
 use Rattle.codes.proofs.Order.{value}

@@ -1,4 +1,4 @@
-use Rattle.std.proofs.Common.{◌≡◌, ℕ, ◌+◌, ◌-◌, ◌*◌, ◌%◌, ◌^◌, ◌<◌, ◌≤◌, List, length, get_or, take, drop, sym, ap, ◌∙◌, subst, arith}
+use Rattle.std.proofs.Common.{◌≡◌, ℕ, ◌-◌, ◌*◌, ◌%◌, ◌^◌, get_or, take, drop, sym, ap, subst, arith}
 use lib.Bits.{bit_or}
 use Rattle.std.proofs.lemmas.List.{drop_all, get_or-take}
 use Rattle.codes.specs.Sets.{bits}

@@ -1,6 +1,6 @@
-use Rattle.std.proofs.Common.{◌≡◌, ℕ, suc, ◌+◌, ◌-◌, ◌<◌, ◌≤◌, List, length, get_or, take, drop, sym, ap, ◌∙◌, subst, arith}
+use Rattle.std.proofs.Common.{◌≡◌, ℕ, suc, ◌-◌, List, length, get_or, take, drop, sym, ◌∙◌, subst, arith}
 use Rattle.std.proofs.lemmas.List.{drop_all, length-take-le, get_or-take}
-use Rattle.codes.specs.Steps.{Last, Next}
+use Rattle.codes.specs.Steps.{Last}
 use Rattle.codes.proofs.Step.{last_more, next_at}
 use Rattle.schemes.proofs.scheme.marking.successor.Goals as goal
 

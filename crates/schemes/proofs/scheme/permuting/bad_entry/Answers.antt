@@ -1,4 +1,4 @@
-use Rattle.std.proofs.Common.{◌≡◌, Some, sym, ◌∙◌, arith}
+use Rattle.std.proofs.Common.{sym, arith}
 use Rattle.codes.specs.Offenders.{bad_place}
 use Rattle.codes.proofs.Found.{least_with-some, least_with-none}
 use Rattle.schemes.proofs.scheme.permuting.bad_entry.Goals as goal

@@ -1,4 +1,4 @@
-use Rattle.std.proofs.Common.{◌≡◌, sym, ◌∙◌, arith, rules}
+use Rattle.std.proofs.Common.{sym, arith}
 use Rattle.codes.specs.Code.{Code, code}
 use Rattle.codes.specs.Offenders.{unkept_unit}
 use Rattle.codes.proofs.Found.{least_with-some, least_with-none}

@@ -1,4 +1,4 @@
-use Rattle.std.proofs.Common.{◌≡◌, true, false, not, sym, ap, ◌∙◌, arith, below_more}
+use Rattle.std.proofs.Common.{not, sym, ap, ◌∙◌, arith, below_more}
 use Rattle.codes.specs.Code.{Code, code, codeword, unit, moved, is_codeword}
 use Rattle.codes.proofs.Found.{least-some, least-none}
 use Rattle.schemes.proofs.scheme.permuting.unkept_unit.Goals as goal

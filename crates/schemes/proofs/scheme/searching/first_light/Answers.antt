@@ -1,6 +1,5 @@
-use Rattle.std.proofs.Common.{◌≡◌, ℕ, ◌+◌, ◌-◌, ◌^◌, ◌<◌, ◌≤◌, true, false, leb, List, take, sym, ap, ◌∙◌, subst, arith}
+use Rattle.std.proofs.Common.{◌≡◌, ℕ, ◌-◌, ◌^◌, leb, List, take, sym, ap, ◌∙◌, arith}
 use native.Mathlib.Nat.{sub-zero}
-use Rattle.std.proofs.lemmas.Bool.{cases_lt}
 use Rattle.codes.specs.Code.{Code, code, codeword, weight, message}
 use Rattle.codes.proofs.Found.{least-some, least-none}
 use Rattle.codes.proofs.Messages.{pos_pow}

@@ -1,4 +1,4 @@
-use Rattle.std.proofs.Common.{◌≡◌, ℕ, ◌+◌, ◌<◌, ◌≤◌, true, false, leb, length, get_or, sym, arith, below_more}
+use Rattle.std.proofs.Common.{leb, length, get_or, sym, arith, below_more}
 use Rattle.codes.proofs.Found.{least-some, least-none}
 use Rattle.schemes.proofs.Bounds.{le-leb, gt_leb}
 use Rattle.schemes.proofs.scheme.words.first_excess.Goals as goal
