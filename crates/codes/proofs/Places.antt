@@ -1,6 +1,6 @@
 -- Distances and permutations of places.
 use Rattle.std.proofs.Common.{◌≡◌, ℕ, zero, suc, ◌+◌, ◌<◌, ◌≤◌, Bool, true, false, cond, eqb, List, [], ◌∷◌, length, get_or, sym, refl, ap, ◌∙◌, ap₂, ⊎_elim, not-suc-le-zero, arith}
-use Rattle.std.specs.List.{AllByRecursion as All}
+use Rattle.std.specs.List.{AllByRecursion}
 use Rattle.std.proofs.lemmas.List.{ext_get_or}
 use Rattle.std.proofs.lemmas.List.FromFn.{length-map-range_with_len, get_or-map-range_with_len}
 use Rattle.std.proofs.lemmas.Bool.{true≢false, cases_eq, eq-eqb, ne_eqb, eqb-true, cond-true, cond-false, cases_Bool, cases_lt}
@@ -113,12 +113,12 @@ differing_rising n f zero v w e = tt
 differing_rising n f (suc d) v w e =
     rising_cond (eqb (get_or v f 0) (get_or w f 0)) n f (differing (suc f) d v w) (omega arith) (differing_rising n (suc f) d v w (omega arith))
 
-all_of_cond : (P : ℕ → Type 0) (b : Bool) (x : ℕ) (xs : List ℕ) → All P (cond b xs (x ∷ xs)) → All P xs × (b ≡ false → P x)
+all_of_cond : (P : ℕ → Type 0) (b : Bool) (x : ℕ) (xs : List ℕ) → AllByRecursion P (cond b xs (x ∷ xs)) → AllByRecursion P xs × (b ≡ false → P x)
 all_of_cond P true x xs h = (h, λ e. absurd (true≢false e))
 all_of_cond P false x xs h = (h.1, λ e. h.0)
 
 -- at a place where a fact of all the differing places fails, the words agree
-pub agree : (P : ℕ → Type 0) (f d : ℕ) (v w : List ℕ) → All P (differing f d v w) → (p : ℕ) → f ≤ p → p < f + d → (P p → ⊥) → get_or v p 0 ≡ get_or w p 0
+pub agree : (P : ℕ → Type 0) (f d : ℕ) (v w : List ℕ) → AllByRecursion P (differing f d v w) → (p : ℕ) → f ≤ p → p < f + d → (P p → ⊥) → get_or v p 0 ≡ get_or w p 0
 agree P f zero v w all p l h no-P = absurd (omega arith)
 agree P f (suc d) v w all p l h no-P =
     let parts = all_of_cond P (eqb (get_or v f 0) (get_or w f 0)) f (differing (suc f) d v w) all in

@@ -1,6 +1,6 @@
 -- A set of at most t places lies in a set of exactly t.
 use Rattle.std.proofs.Common.{◌≡◌, ℕ, zero, suc, ◌+◌, ◌<◌, ◌≤◌, List, [], ◌∷◌, length, sym, refl, ap, subst, ⊎_elim, arith}
-use Rattle.std.specs.List.{AllByRecursion as All}
+use Rattle.std.specs.List.{AllByRecursion}
 use Rattle.std.proofs.lemmas.Bool.{cases_eq}
 use Rattle.codes.specs.Sets.{Rising}
 
@@ -17,7 +17,7 @@ pub record Wider (n f t : ℕ) (ps : List ℕ) : Type 1 where
   pub wide : List ℕ
   pub long : length wide ≡ t
   pub rises : Rising n f wide
-  pub holds : (P : ℕ → Type 0) → All P wide → All P ps
+  pub holds : (P : ℕ → Type 0) → AllByRecursion P wide → AllByRecursion P ps
 
 wider_up : (n f t : ℕ) (ps : List ℕ) → Wider n (suc f) t ps → Wider n f t ps
 wider_up n f t ps w = record { wide = w.wide; long = w.long; rises = rising_from n f (suc f) w.wide (omega arith) w.rises; holds = w.holds }

@@ -1,7 +1,7 @@
 -- Systematic block codes over a ring of symbols, permutations of places, and attempts of permutation decoding.
 -- A word is a list of symbols. `slice_index w p` is the symbol of w at place p, places being numbered from 0.
 use Rattle.std.specs.Prelude.{◌≡◌, ℕ, zero, suc, ◌+◌, ◌-◌, ◌*◌, ◌/◌, ◌%◌, ◌^◌, ◌<◌, ◌≤◌, Bool, cond, List, [], ◌∷◌, ◌++◌, map, length, take, ◌==◌, slice_index}
-use Rattle.std.specs.List.{range_with_len, AllByRecursion as All}
+use Rattle.std.specs.List.{range_with_len, AllByRecursion}
 use Rattle.symbols.specs.Ring.{Ring, times, total}
 
 -- A code has n places, of which the first k are information places and the others check places.
@@ -75,7 +75,7 @@ returned n σ w = map (λ p. slice_index w (σ p)) (range_with_len 0 n)
 
 -- σ takes each of the places to a check place
 abbrev pub Clears : ℕ → (ℕ → ℕ) → List ℕ → Type 0
-Clears k σ places = All (λ p. k ≤ σ p) places
+Clears k σ places = AllByRecursion (λ p. k ≤ σ p) places
 
 -- the word of the attempt by σ on the block v: v taken by σ, the codeword of its first k symbols, brought back
 abbrev pub candidate : Code → (ℕ → ℕ) → List ℕ → List ℕ

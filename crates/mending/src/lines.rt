@@ -2,7 +2,7 @@
 ghost use Rattle.std.specs.Prelude.{◌≡◌, ℕ, ◌+◌, ◌<◌, ◌≤◌, List, ◌++◌, map, length, IfOk, codes, decimal, OnOk};
 ghost use Rattle.faults.specs.Refusal.{refusal};
 ghost use Rattle.schemes.specs.Told.{answered, counts};
-ghost use Rattle.mending.specs.Lines.{digit as digitOf, fate, total, refused_line};
+ghost use Rattle.mending.specs.Lines.{digit as digit_of, fate, total, refused_line};
 
 use faults::Fault;
 use schemes::Tally;
@@ -18,7 +18,7 @@ fn put_number(heap: Global, text: &mut Vec<u8>, number: u64) -> Result<(), Alloc
 
 // A symbol as a digit from 0 to f.
 fn digit(symbol: u8) -> u8
-    ensures { result ≡ digitOf symbol }
+    ensures { result ≡ digit_of symbol }
 {
     let value = symbol % 16;
     if value < 10 { 48 + value } else { 87 + value }
@@ -26,7 +26,7 @@ fn digit(symbol: u8) -> u8
 
 // Appends symbols as digits.
 fn put_symbols(text: &mut Vec<u8>, symbols: &[u8]) -> Result<(), AllocError>
-    ensures { OnOk result (text.new.items ≡ text.old.items ++ map digitOf symbols.now) }
+    ensures { OnOk result (text.new.items ≡ text.old.items ++ map digit_of symbols.now) }
 {
     for p in 0..symbols.len() {
         text.push(digit(symbols[p]))?;
@@ -35,14 +35,14 @@ fn put_symbols(text: &mut Vec<u8>, symbols: &[u8]) -> Result<(), AllocError>
 }
 
 fn put_clean(text: &mut Vec<u8>, word: &[u8]) -> Result<(), AllocError>
-    ensures { OnOk result (text.new.items ≡ text.old.items ++ (codes " clean 0 " ++ map digitOf word.now)) }
+    ensures { OnOk result (text.new.items ≡ text.old.items ++ (codes " clean 0 " ++ map digit_of word.now)) }
 {
     text.extend_from_slice(b" clean 0 ")?;
     put_symbols(text, word)
 }
 
 fn put_mended(heap: Global, text: &mut Vec<u8>, d: u8, word: &[u8]) -> Result<(), AllocError>
-    ensures { OnOk result (text.new.items ≡ text.old.items ++ (codes " mended " ++ (decimal d ++ (codes " " ++ map digitOf word.now)))) }
+    ensures { OnOk result (text.new.items ≡ text.old.items ++ (codes " mended " ++ (decimal d ++ (codes " " ++ map digit_of word.now)))) }
 {
     text.extend_from_slice(b" mended ")?;
     put_number(heap, text, d as u64)?;
@@ -51,7 +51,7 @@ fn put_mended(heap: Global, text: &mut Vec<u8>, d: u8, word: &[u8]) -> Result<()
 }
 
 fn put_lost(text: &mut Vec<u8>, block: &[u8]) -> Result<(), AllocError>
-    ensures { OnOk result (text.new.items ≡ text.old.items ++ (codes " lost - " ++ map digitOf block.now)) }
+    ensures { OnOk result (text.new.items ≡ text.old.items ++ (codes " lost - " ++ map digit_of block.now)) }
 {
     text.extend_from_slice(b" lost - ")?;
     put_symbols(text, block)

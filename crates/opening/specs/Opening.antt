@@ -4,7 +4,7 @@ use Rattle.std.specs.Option.{option_or}
 use Rattle.faults.specs.Refusal.{Refusal, refuse}
 use Rattle.symbols.specs.Ring.{Ring, residues}
 use Rattle.symbols.specs.Polynomials.{two_power}
-use Rattle.lists.specs.Meaning.{Meaning, table as table_of, shifts as shiftsOf, multiplied}
+use Rattle.lists.specs.Meaning.{Meaning, table as table_of, shifts as shifts_of, multiplied}
 use Rattle.files.specs.Contents.{ListForm, table, shifts, multiplier, Contents}
 use Rattle.promises.specs.Scheme.{Plan, plan, Handed, handing, draft_refusal}
 use Rattle.promises.specs.Trial.{verdict}
@@ -20,8 +20,8 @@ kind_refusal family base = cond (nat_le 2 base && nat_le base (cond (family == 0
 -- what a list form means, for n places and the count c
 abbrev pub meaning_of : ℕ → ℕ → ListForm → Meaning
 meaning_of n c (table bytes) = table_of n bytes
-meaning_of n c (shifts step) = shiftsOf n step c
-meaning_of n c (multiplier step factor powers) = multiplied factor powers (shiftsOf n step c)
+meaning_of n c (shifts step) = shifts_of n step c
+meaning_of n c (multiplier step factor powers) = multiplied factor powers (shifts_of n step c)
 
 -- 2: a table of whole rows of 1 to 64 places, at most 512 of them; the other forms are lists for all their numbers
 abbrev pub list_refusal : ℕ → ListForm → Option Refusal

@@ -6,7 +6,7 @@
 ghost use Rattle.std.specs.Prelude.{◌≡◌, Some, None, MatchResult};
 ghost use Rattle.faults.specs.Refusal.{refusal};
 ghost use Rattle.files.specs.Held.{contents, family_number, list_of};
-ghost use Rattle.promises.specs.Scheme.{plan, handing, scheme as schemeOf, none};
+ghost use Rattle.promises.specs.Scheme.{plan, handing, scheme as scheme_of, none};
 ghost use Rattle.promises.specs.Promise.{Promise};
 ghost use Rattle.opening.specs.Opening.{ring_of, kind_refusal, meaning_of, list_refusal, live_refusal};
 ghost use Rattle.opening.specs.Held.{ring_held, meaning_held, WentLive};

@@ -2,7 +2,7 @@
 ghost use Rattle.std.specs.Prelude.{◌≡◌, ℕ, ◌+◌, ◌-◌, ◌*◌, ◌<◌, ◌≤◌, length, is_some, nat_eq};
 ghost use Rattle.codes.specs.Code.{code, codeword, is_codeword, unit, Permutation, moved};
 ghost use Rattle.codes.specs.Search.{least};
-ghost use Rattle.codes.specs.Offenders.{bad_place, bad_entry, unkept_unit, unkept as unkeptOf};
+ghost use Rattle.codes.specs.Offenders.{bad_place, bad_entry, unkept_unit, unkept as unkept_of};
 
 use crate::scheme::words::{encode_into, is_codeword};
 use lists::Permutations;
@@ -182,7 +182,7 @@ pub(crate) fn unkept<K: Kind, L: Permutations>(
     requires size { length rows.now ≡ k * (n - k) }
     requires long { n ≡ (L.meaning list.now).places }
     requires permutations { (i : ℕ) → i < (L.meaning list.now).count → Permutation n ((L.meaning list.now).target i) }
-    ensures { result ≡ unkeptOf (code (K.ring kind.now) n k rows.now) (L.meaning list.now).count (L.meaning list.now).target }
+    ensures { result ≡ unkept_of (code (K.ring kind.now) n k rows.now) (L.meaning list.now).count (L.meaning list.now).target }
 {
     for i in 0..list.count() {
         if let Some(j) = unkept_unit(kind, list, i, n, k, rows) {

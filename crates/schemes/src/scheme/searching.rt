@@ -1,6 +1,6 @@
 // The search through all messages for a codeword with few non-zero symbols.
 ghost use Rattle.std.specs.Prelude.{◌≡◌, ℕ, ◌+◌, ◌-◌, ◌*◌, ◌^◌, ◌<◌, ◌≤◌, length, take};
-ghost use Rattle.codes.specs.Code.{code, message as messageOf};
+ghost use Rattle.codes.specs.Code.{code, message as message_of};
 ghost use Rattle.codes.specs.Offenders.{light};
 
 use crate::scheme::words::is_light;
@@ -9,7 +9,7 @@ use symbols::Kind;
 // The message of k symbols that reads as x in base q, its first symbol leading.
 fn message(x: u32, q: u8, k: usize) -> [u8; 16]
     requires { (2 ≤ q) × (k ≤ 16) }
-    ensures { take k result ≡ messageOf q k x }
+    ensures { take k result ≡ message_of q k x }
 {
     let mut symbols = [0u8; 16];
     let mut rest = x;
