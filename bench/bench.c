@@ -13,8 +13,6 @@
 /* The entry of crates/timing: 0 where the scheme goes live, else the number of the refusal. */
 uint8_t dulvarech_rounds(const uint8_t *file, size_t file_size, const uint8_t *blocks, size_t blocks_size,
                          uint8_t *out, size_t out_size, uint32_t rounds);
-uint8_t dulvarech_correct(const uint8_t *file, size_t file_size, const uint8_t *block, size_t block_size,
-                          uint8_t *out, size_t out_size);
 
 enum { BLOCKS = 200, TRIALS = 5, RUNS = 7, UNWRITTEN = 0xa5 };
 

@@ -84,9 +84,8 @@ enum dulvarech_answer {
  * points to as many bytes as its size says, and is not NULL even at size 0; nothing else writes these bytes during the call;
  * the output overlaps neither the file nor the block.
  *
- * Each call tries the scheme anew, and the trial is the long part: with n = 7 and t = 1 it is a matter of microseconds, with
- * n = 23, k = 12 and t = 3 of half a millisecond, with n = 64, k = 16, t = 5 and 512 permutations of some 25 milliseconds. The
- * call needs some 10 kilobytes of stack.
+ * Each call tries the scheme anew, and the trial is the long part: with n = 7 and t = 1 it is a matter of microseconds,
+ * with n = 64 and t = 5 it goes through 7,624,512 sets of places. The call needs some 10 kilobytes of stack.
  */
 uint8_t dulvarech_correct(const uint8_t *file, size_t file_size,
                           const uint8_t *block, size_t block_size,

@@ -8,7 +8,8 @@ work=$(mktemp -d)
 trap 'rm -rf "$work"' EXIT
 mkdir -p "$work/crates"
 for crate in faults symbols lists codes promises schemes; do
-    cp -r "$top/crates/$crate" "$work/crates/$crate"
+    mkdir "$work/crates/$crate"
+    cp -r "$top/crates/$crate"/[!o]* "$work/crates/$crate/"
 done
 
 try() { # name, expected words, body

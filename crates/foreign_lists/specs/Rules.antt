@@ -11,16 +11,16 @@ Numbering =
     → (multiplied g r M).target (i * M.count + j) p ≡ M.target j ((g ^ i * p) % M.places)
 
 -- Number j takes p to (p + s * j) mod n.
-abbrev pub Plain-shifts : Type 0
-Plain-shifts =
+abbrev pub PlainShifts : Type 0
+PlainShifts =
     (n s c j p : ℕ)
     → n ≤ 255
     → p < n
     → ((shifts n s c).places ≡ n) × ((shifts n s c).target j p ≡ (p + s * j) % n)
 
 -- The count is that of the rows, and the target of (i, p) is byte i * n + p.
-abbrev pub Plain-tables : Type 0
-Plain-tables =
+abbrev pub PlainTables : Type 0
+PlainTables =
     (n : ℕ) (bytes : List ℕ) (i p : ℕ)
     → Fair n (length bytes)
     → slice_index bytes (i * n + p) ≤ 255

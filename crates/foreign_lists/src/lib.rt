@@ -5,7 +5,7 @@
 
 ghost use Rattle.std.specs.Prelude.{◌≡◌};
 ghost use Rattle.foreign_lists.specs.Reversal.{reversed, reversed_bounds};
-ghost use Rattle.foreign_lists.specs.Rules.{Numbering, Plain-shifts, Plain-tables};
+ghost use Rattle.foreign_lists.specs.Rules.{Numbering, PlainShifts, PlainTables};
 
 use lists::Permutations;
 
@@ -51,8 +51,8 @@ impl Permutations for Reversed {
 // The rules of the product's lists, as theorems about their definitions. What counts is the contract.
 pub fn definitions_stand() -> u8
     ensures numbering { Numbering }
-    ensures shifts { Plain-shifts }
-    ensures tables { Plain-tables }
+    ensures shifts { PlainShifts }
+    ensures tables { PlainTables }
 {
     0
 }

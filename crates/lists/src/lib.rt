@@ -42,7 +42,7 @@ pub trait Permutations {
     // What the list means.
     ghost meaning: { Self → Meaning };
 
-    // The laws of a list. They are a member and no `law`, since a `law` does not go with a lifetime.
+    // What every list keeps to. It stands above the calls, so it is data and no law.
     ghost bounds: { (l : Self) → Bounds (meaning l) };
 
     // The length n of each permutation.

@@ -23,10 +23,10 @@ meaning_held (Table list) = table list.n list.part.now
 meaning_held (Shifts list) = shifts list.n list.step list.number
 meaning_held (Multiplier list) = multiplied list.g list.r (shifts list.below.n list.below.step list.below.number)
 
-pub bounds-held : (l : FileList) → Bounds (meaning_held l)
-bounds-held (Table list) = table_bounds list.n list.part.now
-bounds-held (Shifts list) = shifts_bounds list.n list.step list.number
-bounds-held (Multiplier list) = multiplied_bounds list.g list.r _ (shifts_bounds list.below.n list.below.step list.below.number)
+pub bounds_held : (l : FileList) → Bounds (meaning_held l)
+bounds_held (Table list) = table_bounds list.n list.part.now
+bounds_held (Shifts list) = shifts_bounds list.n list.step list.number
+bounds_held (Multiplier list) = multiplied_bounds list.g list.r _ (shifts_bounds list.below.n list.below.step list.below.number)
 
 -- A live scheme of these numbers with an empty tally, which no refusal kept from going live, and its promise.
 pub record WentLive (D : Plan) (h : Handed) (live : Live) : Type 0 where

@@ -1,6 +1,6 @@
 // The lists that scheme files name, as one list.
 ghost use Rattle.std.specs.Prelude.{◌≡◌};
-ghost use Rattle.opening.specs.Held.{meaning_held, bounds-held};
+ghost use Rattle.opening.specs.Held.{meaning_held, bounds_held};
 
 use lists::{Multiplier, Permutations, Shifts, Table, Targets};
 
@@ -14,7 +14,7 @@ pub enum FileList<'a> {
 impl<'a> Permutations for FileList<'a> {
     ghost meaning = { meaning_held };
 
-    ghost bounds = { bounds-held };
+    ghost bounds = { bounds_held };
 
     fn length(&self) -> u8 {
         match self {
