@@ -11,8 +11,8 @@ use Rattle.files.specs.Limits.{file_refusal}
 use Rattle.promises.specs.Scheme.{Plan, plan, Handed, handing, Scheme, scheme, Counts, none}
 use Rattle.promises.specs.Calls.{Correcting, Corrects, refuses, finds, loses}
 use Rattle.promises.specs.Promise.{Promise}
-use Rattle.opening.specs.Opening.{ring_of, kind_refusal, meaning_of, list_refusal, handed_of, plan_of, live_refusal, contents_refusal}
-use Rattle.host.specs.Hosted.{way_refusal, scheme_in, call_of}
+use Rattle.opening.specs.Opening.{ring_of, kind_refusal, meaning_of, list_refusal, handed_of, plan_of, live_refusal, opening_refusal, scheme_refusal}
+use Rattle.host.specs.Hosted.{scheme_in, call_of}
 
 -- a file that is accepted and says x, with a kind of ring R and a list of meaning M that are not refused
 pub record Opened (file : List ℕ) (x : Contents) (R : Ring) (M : Meaning) : Type 0 where
@@ -45,20 +45,20 @@ module _ (file : List ℕ) (x : Contents) (R : Ring) (M : Meaning) (o : Opened f
   same_live =
       ap (λ (D : Plan). live_refusal D (handed_by x R M)) same_plan ∙ ap (λ (h : Handed). live_refusal (plan_of x) h) same_handed
 
-  by_kind : contents_refusal x ≡ option_or (list_refusal x.n x.list) (live_refusal (plan_of x) (handed_of x))
+  by_kind : opening_refusal x ≡ option_or (list_refusal x.n x.list) (live_refusal (plan_of x) (handed_of x))
   by_kind =
       ap (λ (w : Option Refusal). option_or w (option_or (list_refusal x.n x.list) (live_refusal (plan_of x) (handed_of x)))) o.kind
 
-  by_list : contents_refusal x ≡ live_refusal (plan_of x) (handed_of x)
+  by_list : opening_refusal x ≡ live_refusal (plan_of x) (handed_of x)
   by_list = by_kind ∙ ap (λ (w : Option Refusal). option_or w (live_refusal (plan_of x) (handed_of x))) o.list
 
-  by_file : way_refusal file ≡ contents_refusal x
+  by_file : scheme_refusal file ≡ opening_refusal x
   by_file =
-      ap (λ (w : Option Refusal). option_or w (contents_refusal (contents_of file))) o.accepted
-      ∙ ap (λ (y : Contents). contents_refusal y) (sym o.says)
+      ap (λ (w : Option Refusal). option_or w (opening_refusal (contents_of file))) o.accepted
+      ∙ ap (λ (y : Contents). opening_refusal y) (sym o.says)
 
   -- what going live is refused for is what the way is refused for
-  pub way_is : (r : Option Refusal) → live_refusal (plan_by x R) (handed_by x R M) ≡ r → way_refusal file ≡ r
+  pub way_is : (r : Option Refusal) → live_refusal (plan_by x R) (handed_by x R M) ≡ r → scheme_refusal file ≡ r
   way_is r e = by_file ∙ by_list ∙ sym same_live ∙ e
 
   -- the call that was made is the file's

@@ -1,17 +1,11 @@
 -- What one call of a host is answered, from the bytes of a scheme file, a block and an output.
-use Rattle.std.specs.Prelude.{◌≡◌, ℕ, ◌+◌, ◌≤◌, ◌⊎◌, List, Some, None, Ok, Err, Option, Result}
-use Rattle.std.specs.Option.{option_or}
+use Rattle.std.specs.Prelude.{◌≡◌, ℕ, ◌+◌, ◌≤◌, ◌⊎◌, List, Some, None, Ok, Err, Result}
 use Rattle.faults.specs.Refusal.{Refusal}
 use Rattle.files.specs.Layout.{contents_of}
-use Rattle.files.specs.Limits.{file_refusal}
 use Rattle.promises.specs.Scheme.{Scheme, scheme, Counts, none}
 use Rattle.promises.specs.Calls.{Correcting, Corrects}
 use Rattle.promises.specs.Promise.{Promise}
-use Rattle.opening.specs.Opening.{contents_refusal, handed_of, plan_of}
-
--- the first refusal on the way from a file to its live scheme: of the file, the kind, the list, the draft, the trial
-abbrev pub way_refusal : List ℕ → Option Refusal
-way_refusal file = option_or (file_refusal file) (contents_refusal (contents_of file))
+use Rattle.opening.specs.Opening.{scheme_refusal, handed_of, plan_of}
 
 -- the live scheme of a file
 abbrev pub scheme_in : List ℕ → Scheme
@@ -24,14 +18,14 @@ call_of file block before answer after =
 
 -- The file's scheme goes live and keeps its promise, and its first call of correct has this answer and leaves this output.
 pub record Called (file block before : List ℕ) (answer : Result (ℕ × ℕ) Refusal) (after : List ℕ) : Type 0 where
-  pub clear : way_refusal file ≡ None
+  pub clear : scheme_refusal file ≡ None
   pub promised : Promise (scheme_in file) (handed_of (contents_of file))
   pub tally : Counts
   pub does : Corrects (scheme_in file) none (call_of file block before answer after) tally
 
 -- Refusal r is the first on the way: of what comes before the block, or of the call of correct. The output stays.
 pub record Stops (file block before : List ℕ) (r : Refusal) (after : List ℕ) : Type 0 where
-  pub first : (way_refusal file ≡ Some r) ⊎ Called file block before (Err r) after
+  pub first : (scheme_refusal file ≡ Some r) ⊎ Called file block before (Err r) after
   pub stays : after ≡ before
 
 -- There is none: some attempt corrects the block, at a distance d up to 5.

@@ -1,3 +1,2 @@
 pub mod Powers
 pub mod Replies
-pub mod Rows

@@ -1,5 +1,5 @@
 -- Replies of a list, and targets that are asked for at once.
-use Rattle.std.proofs.Common.{◌≡◌, ℕ, ◌+◌, ◌*◌, ◌%◌, ◌<◌, ◌≤◌, min, cond, ltb, ◌≢◌, ◌⊎◌, List, length, get_or, set, Some, None, sym, ap, ◌∙◌, ap₂, inl, inr, mod-eq_of_lt, mul-add, arith, length-set, below_more, le-ltb, lt-ltb}
+use Rattle.std.proofs.Common.{◌≡◌, ℕ, suc, ◌+◌, ◌*◌, ◌/◌, ◌%◌, ◌<◌, ◌≤◌, min, cond, ltb, ◌≢◌, ◌⊎◌, List, length, get_or, set, Some, None, sym, ap, ◌∙◌, ap₂, inl, inr, mod-eq_of_lt, suc-mul, le-div_iff_mul-le, mul-add, arith, length-set, below_more, le-ltb, lt-ltb}
 use native.Mathlib.Nat.{mod-eq-sub-mod, add-mod}
 use Rattle.std.proofs.lemmas.List.{get_or-set_same, get_or-set_other}
 use Rattle.std.proofs.lemmas.Bool.Decides.{nat_tests}
@@ -69,3 +69,16 @@ around_past p turn n to h l past e =
 -- one multiple more of a power
 pub multiple_more : (power p n : ℕ) → ((power * p) % n + (power * 1) % n) % n ≡ (power * (p + 1)) % n
 multiple_more power p n = sym (add-mod (power * p) (power * 1) n) ∙ ap (λ x. x % n) (sym (mul-add power p 1))
+
+-- whole rows
+pub row_within : (i n size : ℕ) → 0 < n → i * n + n ≤ size → i < size / n
+row_within i n size h l =
+    let s : suc i * n ≤ size = omega (arith, suc-mul i n) in
+    (le-div_iff_mul-le h).1 s
+
+pub row_past : (i n size : ℕ) → 0 < n → size < i * n + n → size / n ≤ i
+row_past i n size h l =
+    elim (lower i (size / n)) [
+      | inl b ↦ (let s : suc i * n ≤ size = (le-div_iff_mul-le h).0 b in absurd (omega (arith, suc-mul i n)))
+      | inr b ↦ b
+    ]

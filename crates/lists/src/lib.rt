@@ -113,19 +113,19 @@ impl<'a> Permutations for Table<'a> {
     }
 
     fn target(&self, i: u16, p: u8) -> Option<u8> {
-        if i >= self.count() || p >= self.n {
+        let first = i as usize * self.n as usize;
+        if i >= MOST || p >= self.n || self.part.len() < first + self.n as usize {
             return None;
         }
-        Some(entry(self.part, self.n, i, p))
+        Some(byte_at(self.part, first + p as usize))
     }
 }
 
-// The byte in row i and column p of a table with n columns.
-fn entry(part: &[u8], n: u8, i: u16, p: u8) -> u8
-    requires { i * n + p < length part.now }
-    ensures { result ≡ slice_index part.now (i * n + p) }
+fn byte_at(part: &[u8], at: usize) -> u8
+    requires { at < length part.now }
+    ensures { result ≡ slice_index part.now at }
 {
-    part[i as usize * n as usize + p as usize]
+    part[at]
 }
 
 // Shifts by the multiples of a step: number j takes p to (p + step * j) mod n. More than 512 are cut off.
@@ -158,10 +158,14 @@ impl Permutations for Shifts {
     }
 
     fn target(&self, j: u16, p: u8) -> Option<u8> {
-        if j >= self.count() || p >= self.n {
+        if j >= self.count() || self.n == 0 {
             return None;
         }
-        Some(((p as u32 + self.step as u32 * j as u32) % self.n as u32) as u8)
+        let turn = (self.step as u32 * j as u32 % self.n as u32) as u8;
+        if p >= self.n {
+            return None;
+        }
+        Some(around(p, turn, self.n))
     }
 }
 

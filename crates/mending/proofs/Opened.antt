@@ -8,10 +8,10 @@ use Rattle.files.specs.Contents.{Contents}
 use Rattle.files.specs.Layout.{contents_of}
 use Rattle.files.specs.Limits.{file_refusal}
 use Rattle.promises.specs.Scheme.{Plan, plan, Handed, handing, Scheme, scheme}
-use Rattle.opening.specs.Opening.{ring_of, meaning_of, kind_refusal, list_refusal, live_refusal, contents_refusal, plan_of, handed_of}
+use Rattle.opening.specs.Opening.{ring_of, meaning_of, kind_refusal, list_refusal, live_refusal, opening_refusal, plan_of, handed_of, scheme_refusal}
 use Rattle.mending.specs.Input.{scheme_file, block_bytes}
 use Rattle.mending.specs.Lines.{refused_line}
-use Rattle.mending.specs.Printed.{scheme_refusal, Reported, Printed}
+use Rattle.mending.specs.Printed.{Reported, Printed}
 
 -- what holds of a kind and a list that mean what the contents name holds of the contents
 pub at_contents : (P : Plan → Handed → Type 0) (x : Contents) (R : Ring) (M : Meaning) → R ≡ ring_of x.family x.base → M ≡ meaning_of x.n x.count x.list
@@ -29,7 +29,7 @@ module _ (input : List ℕ) (x : Contents) (accepted : file_refusal (scheme_file
   pub refusal_of : (o : Option Refusal) → live_refusal (plan x.n x.k x.t R.q) (handing R x.rows M) ≡ o → scheme_refusal (scheme_file input) ≡ o
   refusal_of o e =
       after_none _ _ _ accepted
-      (ap contents_refusal (sym is) ∙ after_none _ _ _ kind (after_none _ _ _ list (at_contents (λ D h. live_refusal D h ≡ o) x R M ring meaning e)))
+      (ap opening_refusal (sym is) ∙ after_none _ _ _ kind (after_none _ _ _ list (at_contents (λ D h. live_refusal D h ≡ o) x R M ring meaning e)))
 
   pub report_of : (S : Scheme) (text : List ℕ) → live_refusal (plan x.n x.k x.t R.q) (handing R x.rows M) ≡ None
       → S ≡ scheme (plan x.n x.k x.t R.q) (handing R x.rows M) → Reported S (handing R x.rows M) (block_bytes input) text → Printed input text

@@ -1,15 +1,17 @@
 -- What the contents of a scheme file mean: a kind, a list, the numbers of a draft; and which refusal keeps them from going live.
-use Rattle.std.specs.Prelude.{ℕ, ◌/◌, ◌%◌, cond, ◌&&◌, length, Some, None, Option, ◌==◌, nat_le}
+use Rattle.std.specs.Prelude.{ℕ, ◌/◌, ◌%◌, cond, ◌&&◌, List, length, Some, None, Option, ◌==◌, nat_le}
 use Rattle.std.specs.Option.{option_or}
 use Rattle.faults.specs.Refusal.{Refusal, refuse}
 use Rattle.symbols.specs.Ring.{Ring, residues}
 use Rattle.symbols.specs.Polynomials.{two_power}
 use Rattle.lists.specs.Meaning.{Meaning, table as table_of, shifts as shifts_of, multiplied}
 use Rattle.files.specs.Contents.{ListForm, table, shifts, multiplier, Contents}
+use Rattle.files.specs.Layout.{contents_of}
+use Rattle.files.specs.Limits.{file_refusal}
 use Rattle.promises.specs.Scheme.{Plan, plan, Handed, handing, draft_refusal}
 use Rattle.promises.specs.Trial.{verdict}
 
--- the ring of a file's kind: residues b in family 0, else two-power w
+-- the ring of a file's kind: residues b in family 0, else two_power w
 abbrev pub ring_of : ℕ → ℕ → Ring
 ring_of family base = cond (family == 0) (residues base) (two_power base)
 
@@ -42,6 +44,10 @@ abbrev pub live_refusal : Plan → Handed → Option Refusal
 live_refusal D h = option_or (draft_refusal D.n D.k D.t D.q) (verdict D h)
 
 -- the first refusal on the way from contents to a live scheme: of the kind, the list, the draft, the trial
-abbrev pub contents_refusal : Contents → Option Refusal
-contents_refusal x =
+abbrev pub opening_refusal : Contents → Option Refusal
+opening_refusal x =
     option_or (kind_refusal x.family x.base) (option_or (list_refusal x.n x.list) (live_refusal (plan_of x) (handed_of x)))
+
+-- the first refusal on the way from a file's bytes to its live scheme: of the file, then of its contents
+abbrev pub scheme_refusal : List ℕ → Option Refusal
+scheme_refusal file = option_or (file_refusal file) (opening_refusal (contents_of file))

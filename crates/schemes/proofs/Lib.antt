@@ -1,3 +1,5 @@
 mod Bounds
 mod Clearing
-mod Shuffling
+mod Taking
+mod Opening
+mod Summing

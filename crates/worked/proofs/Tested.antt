@@ -18,8 +18,8 @@ use Rattle.promises.specs.Promise.{Promise}
 use Rattle.promises.proofs.Promised.{law}
 use Rattle.promises.proofs.Refusing.{accepted}
 use Rattle.files.specs.Layout.{contents_of}
-use Rattle.opening.specs.Opening.{plan_of, handed_of}
-use Rattle.host.specs.Hosted.{way_refusal, Called}
+use Rattle.opening.specs.Opening.{plan_of, handed_of, scheme_refusal}
+use Rattle.host.specs.Hosted.{Called}
 
 some-not : {A : Type 0} (o : Option A) → not (is_some o) ≡ true → o ≡ None
 some-not None e = refl
@@ -99,7 +99,7 @@ module _ (file v before : List ℕ) where
   abbrev h : Handed
   h = handed_of (contents_of file)
 
-  module _ (rules : RingRules h.ring) (some : 0 < D.k) (order : D.k < D.n) (live : way_refusal file ≡ None) (tried : verdict D h ≡ None) (clear : objection (scheme D h) h D.n v before ≡ None) where
+  module _ (rules : RingRules h.ring) (some : 0 < D.k) (order : D.k < D.n) (live : scheme_refusal file ≡ None) (tried : verdict D h ≡ None) (clear : objection (scheme D h) h D.n v before ≡ None) where
     promised : Promise (scheme D h) h
     promised = law D h (record { rules = rules; some = some; order = order; verdict_none = tried })
 

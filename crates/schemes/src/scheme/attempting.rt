@@ -1,87 +1,46 @@
 // Attempts: a block taken by a permutation, its first symbols encoded anew, and the codeword brought back.
-ghost use Rattle.std.specs.Prelude.{◌≡◌, ℕ, ◌+◌, ◌-◌, ◌*◌, ◌<◌, ◌≤◌, length, take, MatchOption, slice_index};
+ghost use Rattle.std.specs.Prelude.{◌≡◌, ℕ, ◌+◌, ◌-◌, ◌*◌, ◌<◌, ◌≤◌, length, take, Some, MatchOption, slice_index};
+ghost use Rattle.lists.specs.Told.{told};
 ghost use Rattle.codes.specs.Code.{code, codeword, Symbols, distance, Permutation, candidate, Succeeds, First};
-ghost use Rattle.schemes.specs.Shuffle.{Shuffled};
 
-use crate::scheme::words::{check_symbol, is_codeword};
-use lists::Permutations;
+use crate::scheme::permuting::take_by;
+use crate::scheme::words::{check_symbols, is_codeword};
+use lists::{Permutations, Targets};
 use symbols::Kind;
 
-// A permutation of at most 64 places: where each place goes, and where each comes from.
-#[derive(Clone, Copy)]
-pub(crate) struct Shuffle {
-    targets: [u8; 64],
-    sources: [u8; 64],
-}
-
-// What stands in `sources` where no place has come yet.
-const NOWHERE: u8 = 255;
-
-// Permutation i of the list, where it has n different targets below n.
-fn shuffle_of<L: Permutations>(list: &L, i: u16, n: usize) -> Option<Shuffle>
-    requires within { i < (L.meaning list.now).count }
-    requires long { n ≡ (L.meaning list.now).places }
-    requires few { n ≤ 64 }
-    ensures { MatchOption result (Permutation n ((L.meaning list.now).target i) → ⊥) (λ s. Shuffled n ((L.meaning list.now).target i) s.targets s.sources) }
-{
-    let mut targets = [0u8; 64];
-    let mut sources = [NOWHERE; 64];
-    for p in 0..n {
-        let Some(to) = list.target(i, p as u8) else {
-            return None;
-        };
-        if to as usize >= n {
-            return None;
-        }
-        if sources[to as usize] != NOWHERE {
-            return None;
-        }
-        targets[p] = to;
-        sources[to as usize] = p as u8;
-    }
-    Some(Shuffle { targets, sources })
-}
-
-// Fills `out` with the symbols of v at the given places.
-fn gather(v: &[u8], places: &[u8; 64], out: &mut [u8])
+// Brings a word back: the symbol of each place is that at the place's target.
+fn bring_back(word: &[u8], targets: &Targets, out: &mut [u8])
     requires few { length out.old ≤ 64 }
-    requires within { (s : ℕ) → s < length out.old → slice_index places.now s < length v.now }
-    ensures { (s : ℕ) → s < length out.old → slice_index out.new s ≡ slice_index v.now (slice_index places.now s) }
+    requires within { (s : ℕ) → s < length out.old → (to : ℕ) × (told targets.now s ≡ Some to) × (to < length word.now) }
+    ensures { (s to : ℕ) → s < length out.old → told targets.now s ≡ Some to → slice_index out.new s ≡ slice_index word.now to }
 {
     for s in 0..out.len() {
-        out[s] = v[places[s] as usize];
+        let Some(to) = targets.target(s as u8) else {
+            return unreachable();
+        };
+        out[s] = word[to as usize];
     }
 }
 
-// Brings a word back: the symbol of each place is that at the place's target.
-fn bring_back(word: &[u8], shuffle: &Shuffle, out: &mut [u8])
-    requires few { length out.old ≤ 64 }
-    requires within { (s : ℕ) → s < length out.old → slice_index shuffle.now.targets s < length word.now }
-    ensures { (s : ℕ) → s < length out.old → slice_index out.new s ≡ slice_index word.now (slice_index shuffle.now.targets s) }
-{
-    gather(word, &shuffle.targets, out);
-}
-
-// Gives the word the check symbols of the message, and answers in how many places it changed; none where these are more than t.
+// Gives the word the check symbols of its first k symbols, and answers in how many places it changed; none where these are more than t.
 fn set_checks<K: Kind>(
     kind: &K,
     n: usize,
     k: usize,
     rows: &[u8],
-    message: &[u8],
     t: u8,
     word: &mut [u8],
 ) -> Option<u8>
     requires order { (k < n) × (n ≤ 64) × (t ≤ 5) }
     requires size { length rows.now ≡ k * (n - k) }
-    requires long { (length message.now ≡ k) × (length word.old ≡ n) }
-    requires front { message.now ≡ take k word.old }
-    ensures { MatchOption result (t < distance n word.old (codeword (code (K.ring kind.now) n k rows.now) message.now))
-        (λ d. (d ≡ distance n word.old (codeword (code (K.ring kind.now) n k rows.now) message.now)) × (d ≤ t) × (word.new ≡ codeword (code (K.ring kind.now) n k rows.now) message.now)) }
+    requires long { length word.old ≡ n }
+    ensures { MatchOption result (t < distance n word.old (codeword (code (K.ring kind.now) n k rows.now) (take k word.old)))
+        (λ d. (d ≡ distance n word.old (codeword (code (K.ring kind.now) n k rows.now) (take k word.old))) × (d ≤ t) × (word.new ≡ codeword (code (K.ring kind.now) n k rows.now) (take k word.old))) }
 {
+    let checks = check_symbols(kind, n, k, rows, &word[0..k]);
     let mut changed = 0u8;
     for j in 0..n - k {
-        let symbol = check_symbol(kind, n, k, rows, message, j);
+        let symbol = checks[j];
         if word[k + j] != symbol {
             changed += 1;
             if changed > t {
@@ -93,7 +52,7 @@ fn set_checks<K: Kind>(
     Some(changed)
 }
 
-// Attempt i on the block v, with room for a message and a word: the distance and, in `out`, the word, or none where it fails.
+// Attempt i on the block v, with room for a word: the distance and, in `out`, the word brought back, or none where it fails.
 fn attempt_in<K: Kind, L: Permutations>(
     kind: &K,
     list: &L,
@@ -103,7 +62,6 @@ fn attempt_in<K: Kind, L: Permutations>(
     t: u8,
     rows: &[u8],
     v: &[u8],
-    message: &mut [u8],
     word: &mut [u8],
     out: &mut [u8],
 ) -> Option<u8>
@@ -112,21 +70,19 @@ fn attempt_in<K: Kind, L: Permutations>(
     requires within { i < (L.meaning list.now).count }
     requires long { n ≡ (L.meaning list.now).places }
     requires block { Symbols (K.ring kind.now).q n v.now }
-    requires room { (length message.old ≡ k) × (length word.old ≡ n) × (length out.old ≡ n) }
+    requires room { (length word.old ≡ n) × (length out.old ≡ n) }
     ensures { MatchOption result (Succeeds (code (K.ring kind.now) n k rows.now) t ((L.meaning list.now).target i) v.now → ⊥)
         (λ d. Succeeds (code (K.ring kind.now) n k rows.now) t ((L.meaning list.now).target i) v.now
         × (out.new ≡ candidate (code (K.ring kind.now) n k rows.now) ((L.meaning list.now).target i) v.now)
         × (d ≡ distance n v.now out.new)) }
 {
-    let Some(shuffle) = shuffle_of(list, i, n) else {
+    let Some(targets) = take_by(list, i, n, v, word) else {
         return None;
     };
-    gather(v, &shuffle.sources, message);
-    gather(v, &shuffle.sources, word);
-    let Some(d) = set_checks(kind, n, k, rows, message, t, word) else {
+    let Some(d) = set_checks(kind, n, k, rows, t, word) else {
         return None;
     };
-    bring_back(word, &shuffle, out);
+    bring_back(word, &targets, out);
     if !is_codeword(kind, n, k, rows, out) {
         return None;
     }
@@ -156,21 +112,8 @@ fn attempt<K: Kind, L: Permutations>(
         × (out.new ≡ candidate (code (K.ring kind.now) n k rows.now) ((L.meaning list.now).target i) v.now)
         × (d ≡ distance n v.now out.new)) }
 {
-    let mut message = [0u8; 64];
     let mut word = [0u8; 64];
-    attempt_in(
-        kind,
-        list,
-        i,
-        n,
-        k,
-        t,
-        rows,
-        v,
-        &mut message[0..k],
-        &mut word[0..n],
-        out,
-    )
+    attempt_in(kind, list, i, n, k, t, rows, v, &mut word[0..n], out)
 }
 
 // The distance and the number of the first of m attempts that succeeds, with its word in `word`, which any attempt may change.

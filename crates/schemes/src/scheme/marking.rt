@@ -1,9 +1,9 @@
 // The search through all sets of t places, in dictionary order, for one that no permutation clears.
 // A permutation is a mask of the places that it takes to information places: it clears a set when mask and set have no place in common.
-ghost use Rattle.std.specs.Prelude.{◌≡◌, ℕ, ◌+◌, ◌-◌, ◌*◌, ◌<◌, ◌≤◌, List, length, take, MatchBool, MatchOption, bit_and, slice_index};
+ghost use Rattle.std.specs.Prelude.{◌≡◌, ℕ, ◌+◌, ◌-◌, ◌*◌, ◌/◌, ◌%◌, ◌^◌, ◌<◌, ◌≤◌, true, List, [], ◌∷◌, ◌++◌, length, take, MatchBool, MatchOption, bit_and, slice_index};
 ghost use Rattle.std.specs.Option.{option_map};
 ghost use Rattle.codes.specs.Sets.{SetOf, Before, bits, uncleared};
-ghost use Rattle.codes.specs.Steps.{Last, Next, MaskOf, Missed};
+ghost use Rattle.codes.specs.Steps.{Last, Next, MaskOf, Missed, Skipped};
 
 use lists::Permutations;
 
@@ -73,9 +73,50 @@ fn missed(masks: &[u64; 512], m: usize, set: u64) -> bool
     false
 }
 
+// The set with another last place.
+fn ending(set: Places, t: usize, last: u8) -> Places
+    requires { (0 < t) × (t ≤ 5) }
+    ensures { take t result ≡ take (t - 1) set ++ (last ∷ []) }
+{
+    let mut end = set;
+    end[t - 1] = last;
+    end
+}
+
+// Whether, for each place from `from` on, one of the first m masks has neither that place nor a place of `head`.
+// The places for which none is found yet are the bits of `rest`.
+fn all_missed(masks: &[u64; 512], m: usize, head: u64, from: u8) -> bool
+    requires { (m ≤ 512) × (from < 64) }
+    ensures { result ≡ true → (p : ℕ) → from ≤ p → p < 64 → (i : ℕ) × (i < m) × (bit_and (slice_index masks.now i) head ≡ 0) × ((slice_index masks.now i / 2 ^ p) % 2 ≡ 0) }
+{
+    let mut rest = u64::MAX << from;
+    for i in 0..m {
+        if masks[i] & head == 0 {
+            rest &= masks[i];
+            if rest == 0 {
+                return true;
+            }
+        }
+    }
+    false
+}
+
+// The last set that begins as this one does, where some mask misses each set up to it; else the set itself.
+fn skip(masks: &[u64; 512], m: usize, set: Places, t: usize, n: u8) -> Places
+    requires sizes { (m ≤ 512) × (0 < t) × (t ≤ 5) × (n ≤ 64) }
+    requires set { SetOf n t (take t set) }
+    ensures { Skipped masks.now m n t (take t set) (take t result) }
+{
+    let head = number_of(set, t - 1, n);
+    if all_missed(masks, m, head, set[t - 1]) {
+        return ending(set, t, n - 1);
+    }
+    set
+}
+
 // The first set of t places, in dictionary order, that every mask meets, as the sum of the powers of two.
 fn first_met(masks: &[u64; 512], m: usize, t: usize, n: u8) -> Option<u64>
-    requires sizes { (m ≤ 512) × (t ≤ 5) × (t ≤ n) × (n ≤ 64) }
+    requires sizes { (m ≤ 512) × (0 < t) × (t ≤ 5) × (t ≤ n) × (n ≤ 64) }
     ensures { MatchOption result ((ps : List ℕ) → SetOf n t ps → Missed masks.now m ps) (λ x. (s : List ℕ) × (x ≡ bits s) × SetOf n t s × (Missed masks.now m s → ⊥) × ((ps : List ℕ) → SetOf n t ps → Before ps s → Missed masks.now m ps)) }
 {
     let mut set = run_from([0; 5], 0, t, 0);
@@ -84,7 +125,7 @@ fn first_met(masks: &[u64; 512], m: usize, t: usize, n: u8) -> Option<u64>
         if !missed(masks, m, number) {
             return Some(number);
         }
-        let Some(next) = successor(set, t, n) else {
+        let Some(next) = successor(skip(masks, m, set, t, n), t, n) else {
             return None;
         };
         set = next;
@@ -98,9 +139,10 @@ fn mask_of<L: Permutations>(list: &L, i: u16, k: u8, n: u8) -> u64
     requires few { n ≤ 64 }
     ensures { MaskOf n k ((L.meaning list.now).target i) result }
 {
+    let asked = list.targets(i);
     let mut mask = 0u64;
     for p in 0..n {
-        let Some(to) = list.target(i, p) else {
+        let Some(to) = asked.target(p) else {
             return unreachable();
         };
         if to < k {
@@ -126,7 +168,7 @@ fn masks_of<L: Permutations>(list: &L, k: u8, n: u8) -> [u64; 512]
 // The first set of t places, in dictionary order, that no permutation clears, as the sum of the powers of two.
 pub(crate) fn first_uncleared<L: Permutations>(list: &L, n: u8, k: u8, t: u8) -> Option<u64>
     requires long { n ≡ (L.meaning list.now).places }
-    requires sizes { (n ≤ 64) × (t ≤ 5) × (t ≤ n) }
+    requires sizes { (n ≤ 64) × (0 < t) × (t ≤ 5) × (t ≤ n) }
     ensures { result ≡ option_map bits (uncleared n k t (L.meaning list.now).count (L.meaning list.now).target) }
 {
     let masks = masks_of(list, k, n);

@@ -1,46 +1,36 @@
 // Permutations of a list: whether they are such, and whether they keep a code.
-ghost use Rattle.std.specs.Prelude.{◌≡◌, ℕ, ◌+◌, ◌-◌, ◌*◌, ◌<◌, ◌≤◌, length, is_some, nat_eq};
+ghost use Rattle.std.specs.Prelude.{◌≡◌, ℕ, ◌+◌, ◌-◌, ◌*◌, ◌<◌, ◌≤◌, length, MatchOption};
 ghost use Rattle.codes.specs.Code.{code, codeword, is_codeword, unit, Permutation, moved};
-ghost use Rattle.codes.specs.Search.{least};
 ghost use Rattle.codes.specs.Offenders.{bad_place, bad_entry, unkept_unit, unkept as unkept_of};
+ghost use Rattle.schemes.specs.Taken.{Taken};
 
 use crate::scheme::words::{encode_into, is_codeword};
-use lists::Permutations;
+use lists::{Permutations, Targets};
 use symbols::Kind;
 
-// Whether a position below p has the target `to` under permutation i.
-fn came_earlier<L: Permutations>(list: &L, i: u16, p: u8, to: u8) -> bool
-    requires within { i < (L.meaning list.now).count }
-    requires below { p ≤ (L.meaning list.now).places }
-    ensures { result ≡ is_some (least (λ s. nat_eq ((L.meaning list.now).target i s) to) 0 p) }
-{
-    for s in 0..p {
-        let Some(other) = list.target(i, s) else {
-            return unreachable();
-        };
-        if other == to {
-            return true;
-        }
-    }
-    false
-}
+// What stands in `sources` where no place has come yet.
+const NOWHERE: u8 = 255;
 
 // The first position that shows that permutation i is none.
 fn bad_place<L: Permutations>(list: &L, i: u16, n: u8) -> Option<u8>
     requires within { i < (L.meaning list.now).count }
     requires long { n ≡ (L.meaning list.now).places }
+    requires few { n ≤ 64 }
     ensures { result ≡ bad_place n ((L.meaning list.now).target i) }
 {
+    let asked = list.targets(i);
+    let mut sources = [NOWHERE; 64];
     for p in 0..n {
-        let Some(to) = list.target(i, p) else {
+        let Some(to) = asked.target(p) else {
             return unreachable();
         };
         if to >= n {
             return Some(p);
         }
-        if came_earlier(list, i, p, to) {
+        if sources[to as usize] != NOWHERE {
             return Some(p);
         }
+        sources[to as usize] = p;
     }
     None
 }
@@ -48,6 +38,7 @@ fn bad_place<L: Permutations>(list: &L, i: u16, n: u8) -> Option<u8>
 // The first entry that is no permutation, and the first position that shows it.
 pub(crate) fn bad_entry<L: Permutations>(list: &L, n: u8) -> Option<(u16, u8)>
     requires long { n ≡ (L.meaning list.now).places }
+    requires few { n ≤ 64 }
     ensures { result ≡ bad_entry n (L.meaning list.now).count (L.meaning list.now).target }
 {
     for i in 0..list.count() {
@@ -58,22 +49,36 @@ pub(crate) fn bad_entry<L: Permutations>(list: &L, n: u8) -> Option<(u16, u8)>
     None
 }
 
-// Writes the word that permutation i takes v to.
-pub(crate) fn permute_into<L: Permutations>(list: &L, i: u16, n: usize, v: &[u8], out: &mut [u8])
+// Takes the word v by permutation i into `word`: the permutation's targets, or none where they are not n different ones below n.
+pub(crate) fn take_by<L: Permutations>(
+    list: &L,
+    i: u16,
+    n: usize,
+    v: &[u8],
+    word: &mut [u8],
+) -> Option<Targets>
     requires within { i < (L.meaning list.now).count }
     requires long { n ≡ (L.meaning list.now).places }
     requires few { n ≤ 64 }
-    requires permutation { Permutation n ((L.meaning list.now).target i) }
-    requires block { length v.now ≡ n }
-    requires room { length out.old ≡ n }
-    ensures { out.new ≡ moved n ((L.meaning list.now).target i) v.now }
+    requires room { (length v.now ≡ n) × (length word.old ≡ n) }
+    ensures { MatchOption result (Permutation n ((L.meaning list.now).target i) → ⊥) (λ s. Taken n ((L.meaning list.now).target i) s v.now word.new) }
 {
+    let asked = list.targets(i);
+    let mut sources = [NOWHERE; 64];
     for p in 0..n {
-        let Some(to) = list.target(i, p as u8) else {
-            return unreachable();
+        let Some(to) = asked.target(p as u8) else {
+            return None;
         };
-        out[to as usize] = v[p];
+        if to as usize >= n {
+            return None;
+        }
+        if sources[to as usize] != NOWHERE {
+            return None;
+        }
+        sources[to as usize] = p as u8;
+        word[to as usize] = v[p];
     }
+    Some(asked)
 }
 
 // Writes the unit message j.
@@ -108,7 +113,9 @@ fn keeps_unit_in<K: Kind, L: Permutations>(
 {
     write_unit(j, message);
     encode_into(kind, n, k, rows, message, word);
-    permute_into(list, i, n, word, image);
+    let Some(_) = take_by(list, i, n, word, image) else {
+        return unreachable();
+    };
     is_codeword(kind, n, k, rows, image)
 }
 

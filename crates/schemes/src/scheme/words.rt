@@ -1,5 +1,5 @@
 // Words: check symbols, codewords, weights and distances.
-ghost use Rattle.std.specs.Prelude.{◌≡◌, ℕ, ◌+◌, ◌-◌, ◌*◌, ◌<◌, ◌≤◌, length, Decides, nat_le};
+ghost use Rattle.std.specs.Prelude.{◌≡◌, ℕ, ◌+◌, ◌-◌, ◌*◌, ◌<◌, ◌≤◌, length, Decides, nat_le, slice_index};
 ghost use Rattle.codes.specs.Code.{code, check, codeword, Codeword, Symbols, distance, weight};
 ghost use Rattle.promises.specs.Trial.{excess};
 
@@ -17,27 +17,37 @@ pub(crate) fn first_excess(q: u8, word: &[u8]) -> Option<usize>
     None
 }
 
-// Check symbol j of a message.
-pub(crate) fn check_symbol<K: Kind>(
+// The check symbols of a message, in the first n - k places.
+pub(crate) fn check_symbols<K: Kind>(
     kind: &K,
     n: usize,
     k: usize,
     rows: &[u8],
     message: &[u8],
-    j: usize,
-) -> u8
+) -> [u8; 64]
     requires order { k < n }
     requires few { n ≤ 64 }
     requires size { length rows.now ≡ k * (n - k) }
     requires long { length message.now ≡ k }
-    requires within { j < n - k }
-    ensures { result ≡ check (code (K.ring kind.now) n k rows.now) message.now j }
+    ensures { (j : ℕ) → j < n - k → slice_index result j ≡ check (code (K.ring kind.now) n k rows.now) message.now j }
 {
-    let mut sum = 0;
+    let width = n - k;
+    let mut sums = [0u8; 64];
     for i in 0..k {
-        sum = kind.sum(sum, kind.product(message[i], rows[i * (n - k) + j]));
+        if message[i] != 0 {
+            kind.add_multiple(message[i], row_at(rows, i, width), &mut sums);
+        }
     }
-    sum
+    sums
+}
+
+// Row i of rows that are `width` codes wide.
+fn row_at(rows: &[u8], i: usize, width: usize) -> &[u8]
+    requires within { i * width + width ≤ length rows.now }
+    ensures long { length result.now ≡ width }
+    ensures codes { (j : ℕ) → j < width → slice_index result.now j ≡ slice_index rows.now (i * width + j) }
+{
+    &rows[i * width..i * width + width]
 }
 
 // Writes the codeword of a message.
@@ -56,11 +66,12 @@ pub(crate) fn encode_into<K: Kind>(
     requires room { length out.old ≡ n }
     ensures { out.new ≡ codeword (code (K.ring kind.now) n k rows.now) message.now }
 {
+    let checks = check_symbols(kind, n, k, rows, message);
     for i in 0..k {
         out[i] = message[i];
     }
     for j in 0..n - k {
-        out[k + j] = check_symbol(kind, n, k, rows, message, j);
+        out[k + j] = checks[j];
     }
 }
 
@@ -72,8 +83,9 @@ pub(crate) fn is_codeword<K: Kind>(kind: &K, n: usize, k: usize, rows: &[u8], w:
     requires symbols { Symbols (K.ring kind.now).q n w.now }
     ensures { Decides result (Codeword (code (K.ring kind.now) n k rows.now) w.now) }
 {
+    let checks = check_symbols(kind, n, k, rows, &w[0..k]);
     for j in 0..n - k {
-        if check_symbol(kind, n, k, rows, &w[0..k], j) != w[k + j] {
+        if checks[j] != w[k + j] {
             return false;
         }
     }
@@ -108,12 +120,13 @@ pub(crate) fn is_light<K: Kind>(
     requires long { length message.now ≡ k }
     ensures { result ≡ nat_le (weight n (codeword (code (K.ring kind.now) n k rows.now) message.now)) limit }
 {
+    let checks = check_symbols(kind, n, k, rows, message);
     let mut count = nonzero(message);
     for j in 0..n - k {
         if count > limit {
             return false;
         }
-        if check_symbol(kind, n, k, rows, message, j) != 0 {
+        if checks[j] != 0 {
             count += 1;
         }
     }

@@ -17,4 +17,4 @@ first_uncleared-requires g c =
     let D : Plan = plan d.n d.k d.t d.q in
     let h : Handed = handing (g.K.Kind.ring c.args.kind.now) c.args.rows.now (g.L.Permutations.meaning c.args.list.now) in
     let none = ap (option_map _) (sym c.in_default-light_message.ensures) in
-    record { long = sym (fit_long D h c.requires); sizes = (omega arith, omega arith, enough_places D h c.requires (g.met.K.Kind.rules c.args.kind.now) (omega arith) (omega arith) none) }
+    record { long = sym (fit_long D h c.requires); sizes = (omega arith, omega arith, omega arith, enough_places D h c.requires (g.met.K.Kind.rules c.args.kind.now) (omega arith) (omega arith) none) }

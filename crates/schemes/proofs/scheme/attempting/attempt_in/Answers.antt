@@ -1,38 +1,25 @@
-use Rattle.std.proofs.Common.{◌≡◌, ◌≤◌, length, take, sym, ap, ◌∙◌, subst, arith}
+use Rattle.std.proofs.Common.{◌≡◌, ◌≤◌, length, sym, ap, ◌∙◌, subst, arith}
 use Rattle.std.proofs.lemmas.Bool.{false≢true}
 use Rattle.codes.specs.Code.{Code, code, Codeword, Symbols, distance}
 use Rattle.codes.proofs.Linear.{candidate_symbols}
-use Rattle.schemes.proofs.Shuffling.{word_moved, message-moved, word_returned, distance-candidate, candidate_out}
+use Rattle.schemes.proofs.Taking.{word_returned, distance-candidate, candidate_out}
 use Rattle.schemes.proofs.scheme.attempting.attempt_in.Goals as goal
 
-pub set_checks-requires : goal.set_checks-requires
-set_checks-requires g c =
-    let C : Code = code (g.K.Kind.ring c.args.kind.now) c.args.n c.args.k c.args.rows.now in
-    let σ = (g.L.Permutations.meaning c.args.list.now).target c.args.i in
-    let v = c.args.v.now in
-    let sh = c.in-Some.ensures in
-    let lu : length c.gather.new.out ≡ c.args.k = omega arith in
-    let lw : length c.gather-2.new.out ≡ c.args.n = omega arith in
-    let message = message-moved c.args.n σ _ _ sh v c.gather.new.out c.args.k (omega arith) lu (λ s h. c.gather.ensures s (omega arith)) in
-    let block = word_moved c.args.n σ _ _ sh v c.gather-2.new.out lw (λ s h. c.gather-2.ensures s (omega arith)) in
-    record {
-      order = c.requires.order;
-      size = c.requires.size;
-      long = (lu, lw);
-      front = message ∙ ap (take c.args.k) (sym block);
-    }
+pub returns-in_default : goal.returns-in_default
+returns-in_default g c = λ s. c.in_default.ensures s.0
 
 pub returns-in_default-set_checks : goal.returns-in_default-set_checks
 returns-in_default-set_checks g c =
     let C : Code = code (g.K.Kind.ring c.args.kind.now) c.args.n c.args.k c.args.rows.now in
     let σ = (g.L.Permutations.meaning c.args.list.now).target c.args.i in
-    let v = c.args.v.now in
     let sh = c.in-Some.ensures in
-    let lu : length c.gather.new.out ≡ c.args.k = omega arith in
-    let lw : length c.gather-2.new.out ≡ c.args.n = omega arith in
-    let message = message-moved c.args.n σ _ _ sh v c.gather.new.out c.args.k (omega arith) lu (λ s h. c.gather.ensures s (omega arith)) in
-    let block = word_moved c.args.n σ _ _ sh v c.gather-2.new.out lw (λ s h. c.gather-2.ensures s (omega arith)) in
-    λ s. omega (arith, c.in_default-set_checks.ensures, distance-candidate C σ sh.permutes v _ _ message block, s.2)
+    λ s. omega (arith, c.in_default-set_checks.ensures, distance-candidate C σ sh.permutes c.args.v.now _ sh.moves, s.2)
+
+pub bring_back-requires : goal.bring_back-requires
+bring_back-requires g c =
+    let sh = c.in-Some.ensures in
+    let σ = (g.L.Permutations.meaning c.args.list.now).target c.args.i in
+    record { few = omega arith; within = λ s h. (σ s, sh.goes s (omega arith), omega (arith, sh.permutes.0 s (omega arith))) }
 
 pub is_codeword-requires : goal.is_codeword-requires
 is_codeword-requires g c =
@@ -40,14 +27,10 @@ is_codeword-requires g c =
     let σ = (g.L.Permutations.meaning c.args.list.now).target c.args.i in
     let v = c.args.v.now in
     let sh = c.in-Some.ensures in
-    let lu : length c.gather.new.out ≡ c.args.k = omega arith in
-    let lw : length c.gather-2.new.out ≡ c.args.n = omega arith in
-    let message = message-moved c.args.n σ _ _ sh v c.gather.new.out c.args.k (omega arith) lu (λ s h. c.gather.ensures s (omega arith)) in
-    let block = word_moved c.args.n σ _ _ sh v c.gather-2.new.out lw (λ s h. c.gather-2.ensures s (omega arith)) in
     let found = c.in-Some-set_checks.ensures in
     let lo : length c.bring_back.new.out ≡ c.args.n = omega arith in
-    let back = word_returned c.args.n σ _ _ sh c.set_checks.new.word c.bring_back.new.out lo (λ s h. c.bring_back.ensures s (omega arith)) in
-    let is = candidate_out C σ sh.permutes v _ _ message block c.set_checks.new.word c.bring_back.new.out found.2 back in
+    let back = word_returned c.args.n σ (omega arith) c.set_checks.new.word c.bring_back.new.out lo (λ s h. c.bring_back.ensures s (σ s) (omega arith) (sh.goes s h)) in
+    let is = candidate_out C σ sh.permutes v _ sh.moves c.set_checks.new.word c.bring_back.new.out found.2 back in
     record {
       order = c.requires.order.0;
       few = c.requires.order.1;
@@ -61,14 +44,10 @@ returns-then-not-is_codeword g c =
     let σ = (g.L.Permutations.meaning c.args.list.now).target c.args.i in
     let v = c.args.v.now in
     let sh = c.in-Some.ensures in
-    let lu : length c.gather.new.out ≡ c.args.k = omega arith in
-    let lw : length c.gather-2.new.out ≡ c.args.n = omega arith in
-    let message = message-moved c.args.n σ _ _ sh v c.gather.new.out c.args.k (omega arith) lu (λ s h. c.gather.ensures s (omega arith)) in
-    let block = word_moved c.args.n σ _ _ sh v c.gather-2.new.out lw (λ s h. c.gather-2.ensures s (omega arith)) in
     let found = c.in-Some-set_checks.ensures in
     let lo : length c.bring_back.new.out ≡ c.args.n = omega arith in
-    let back = word_returned c.args.n σ _ _ sh c.set_checks.new.word c.bring_back.new.out lo (λ s h. c.bring_back.ensures s (omega arith)) in
-    let is = candidate_out C σ sh.permutes v _ _ message block c.set_checks.new.word c.bring_back.new.out found.2 back in
+    let back = word_returned c.args.n σ (omega arith) c.set_checks.new.word c.bring_back.new.out lo (λ s h. c.bring_back.ensures s (σ s) (omega arith) (sh.goes s h)) in
+    let is = candidate_out C σ sh.permutes v _ sh.moves c.set_checks.new.word c.bring_back.new.out found.2 back in
     λ s. false≢true (sym c.if-not-is_codeword.true ∙ c.is_codeword.ensures.1 (subst (Codeword C) (sym is) s.1))
 
 pub returns : goal.returns
@@ -77,13 +56,9 @@ returns g c =
     let σ = (g.L.Permutations.meaning c.args.list.now).target c.args.i in
     let v = c.args.v.now in
     let sh = c.in-Some.ensures in
-    let lu : length c.gather.new.out ≡ c.args.k = omega arith in
-    let lw : length c.gather-2.new.out ≡ c.args.n = omega arith in
-    let message = message-moved c.args.n σ _ _ sh v c.gather.new.out c.args.k (omega arith) lu (λ s h. c.gather.ensures s (omega arith)) in
-    let block = word_moved c.args.n σ _ _ sh v c.gather-2.new.out lw (λ s h. c.gather-2.ensures s (omega arith)) in
     let found = c.in-Some-set_checks.ensures in
     let lo : length c.bring_back.new.out ≡ c.args.n = omega arith in
-    let back = word_returned c.args.n σ _ _ sh c.set_checks.new.word c.bring_back.new.out lo (λ s h. c.bring_back.ensures s (omega arith)) in
-    let is = candidate_out C σ sh.permutes v _ _ message block c.set_checks.new.word c.bring_back.new.out found.2 back in
-    let far = found.0 ∙ distance-candidate C σ sh.permutes v _ _ message block in
+    let back = word_returned c.args.n σ (omega arith) c.set_checks.new.word c.bring_back.new.out lo (λ s h. c.bring_back.ensures s (σ s) (omega arith) (sh.goes s h)) in
+    let is = candidate_out C σ sh.permutes v _ sh.moves c.set_checks.new.word c.bring_back.new.out found.2 back in
+    let far = found.0 ∙ distance-candidate C σ sh.permutes v _ sh.moves in
     ((sh.permutes, subst (Codeword C) is (c.is_codeword.ensures.0 c.if-not-is_codeword.false), subst (λ x. x ≤ c.args.t) far found.1), is, far ∙ ap (distance c.args.n v) (sym is))

@@ -1,7 +1,7 @@
-use Rattle.std.proofs.Common.{◌+◌}
+use Rattle.std.proofs.Common.{◌+◌, take}
 use Rattle.codes.specs.Code.{code, codeword}
-use Rattle.schemes.proofs.Shuffling.{Setting}
+use Rattle.schemes.proofs.Taking.{Setting}
 use Rattle.schemes.proofs.scheme.attempting.set_checks.Given as goal
 
 abbrev pub invariant-loop-j : goal.invariant-loop-j
-invariant-loop-j g l = Setting l.initial.word (codeword (code (g.K.Kind.ring l.kind) l.n l.k l.rows) l.message) l.t l.changed l.word (l.k + l.j)
+invariant-loop-j g l = Setting l.initial.word (codeword (code (g.K.Kind.ring l.kind) l.n l.k l.rows) (take l.k l.initial.word)) l.t l.changed l.word (l.k + l.j)

@@ -4,7 +4,7 @@ use Rattle.std.proofs.lemmas.List.{length-take-le, get_or-take}
 use Rattle.codes.specs.Sets.{SetOf}
 use Rattle.codes.specs.Steps.{run, Missed}
 use Rattle.codes.proofs.Step.{run_is}
-use Rattle.codes.proofs.Visited.{first_set, next_set, falls, Seen, seen_none, seen_more, seen_all}
+use Rattle.codes.proofs.Visited.{first_set, next_set, falls_later, Seen, seen_none, seen_more, seen_all}
 use Rattle.schemes.proofs.scheme.marking.first_met.Goals as goal
 
 pub loop-set-init : goal.loop-set-init
@@ -22,10 +22,14 @@ returns-in_default c =
     let v = c.loop-set.invariant in
     let P = Missed c.args.masks.now c.args.m in
     let h = subst (λ (b : ℕ). (i : ℕ) × (i < c.args.m) × (bit_and (get_or c.args.masks.now i 0) b ≡ 0)) c.number_of-number.ensures c.if-not-missed.ensures in
-    seen_all c.args.n c.args.t P _ c.in_default.ensures v.1 h v.2
+    let k = c.skip.ensures in
+    let seen = k.seen h v.2 in
+    seen_all c.args.n c.args.t P (take c.args.t c.skip.result) c.in_default.ensures k.set seen.0 seen.1
 
 pub loop-set-smaller : goal.loop-set-smaller
-loop-set-smaller c = falls c.args.n c.args.t _ _ (omega arith) c.in-Some.ensures c.loop-set.invariant.1
+loop-set-smaller c =
+    falls_later c.args.n c.args.t (take c.args.t c.loop-set.set) (take c.args.t c.skip.result) (take c.args.t c.in-Some.next)
+    (omega arith) c.skip.ensures.later c.in-Some.ensures c.loop-set.invariant.1 c.skip.ensures.set
 
 pub loop-set-preserved : goal.loop-set-preserved
 loop-set-preserved c =
@@ -33,4 +37,8 @@ loop-set-preserved c =
     let s = c.in-Some.ensures in
     let P = Missed c.args.masks.now c.args.m in
     let h = subst (λ (b : ℕ). (i : ℕ) × (i < c.args.m) × (bit_and (get_or c.args.masks.now i 0) b ≡ 0)) c.number_of-number.ensures c.if-not-missed.ensures in
-    (omega arith, next_set c.args.n c.args.t _ _ s v.1, seen_more c.args.n c.args.t P _ _ s v.1 h v.2)
+    let k = c.skip.ensures in
+    let seen = k.seen h v.2 in
+    let old = take c.args.t c.skip.result in
+    let new = take c.args.t c.in-Some.next in
+    (omega arith, next_set c.args.n c.args.t old new s k.set, seen_more c.args.n c.args.t P old new s k.set seen.0 seen.1)

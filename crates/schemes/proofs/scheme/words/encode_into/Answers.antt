@@ -23,7 +23,7 @@ loop-j-preserved g c =
     let long : length u ≡ C.k = omega arith in
     rw (← add_assoc)
     (write_more c.loop-j.out (codeword C u) (c.args.k + c.loop-j.j) _ (omega arith) (omega (arith, length-codeword C u long (omega arith)))
-    c.loop-j.invariant (c.check_symbol.ensures ∙ sym (codeword-check C u long c.loop-j.j (omega arith))))
+    c.loop-j.invariant (c.check_symbols-checks.ensures c.loop-j.j (omega arith) ∙ sym (codeword-check C u long c.loop-j.j (omega arith))))
 
 pub returns : goal.returns
 returns g c =

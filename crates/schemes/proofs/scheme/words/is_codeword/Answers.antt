@@ -6,13 +6,13 @@ use Rattle.codes.proofs.Decoding.{check_self}
 use Rattle.codes.proofs.Linear.{codeword_from_checks}
 use Rattle.schemes.proofs.scheme.words.is_codeword.Goals as goal
 
-pub returns-then-check_symbol-w : goal.returns-then-check_symbol-w
-returns-then-check_symbol-w g c = (
+pub returns-then-checks-j : goal.returns-then-checks-j
+returns-then-checks-j g c = (
   (λ e. absurd (false≢true e)),
   (λ cw. absurd (
       let C = code (g.K.Kind.ring c.args.kind.now) c.args.n c.args.k c.args.rows.now in
-      c.if-check_symbol-w.true
-      (c.check_symbol.ensures ∙ ap (λ m. check C (take m c.args.w.now) c.loop-j.j) (sub-zero c.args.k)
+      c.if-checks-j.true
+      (c.check_symbols-checks.ensures c.loop-j.j (omega arith) ∙ ap (λ m. check C (take m c.args.w.now) c.loop-j.j) (sub-zero c.args.k)
       ∙ sym (check_self C c.args.w.now cw c.loop-j.j (omega arith))))),
 )
 

@@ -4,7 +4,7 @@ use Rattle.codes.proofs.Words.{codeword-message, codeword-check}
 use Rattle.codes.proofs.Places.{distance_same, distance_other, weight_agree, distance-mono}
 use Rattle.schemes.proofs.Bounds.{gt_leb}
 use Rattle.schemes.proofs.scheme.words.is_light.Goals as goal
-use Rattle.schemes.proofs.scheme.words.is_light.Goals.{then-check_symbol-ne0, else-check_symbol-ne0}
+use Rattle.schemes.proofs.scheme.words.is_light.Goals.{then-checks-j-ne0, else-checks-j-ne0}
 
 pub loop-j-init : goal.loop-j-init
 loop-j-init g c =
@@ -30,9 +30,9 @@ loop-j-preserved g c =
     let p = c.args.k + c.loop-j.j in
     let at : get_or (codeword C u) p 0 ≡ check C u c.loop-j.j = codeword-check C u long c.loop-j.j (omega arith) in
     let next : weight (suc p) (codeword C u) ≡ weight (c.args.k + (c.loop-j.j + 1)) (codeword C u) = ap (λ m. weight m (codeword C u)) (let z : suc p ≡ c.args.k + (c.loop-j.j + 1) = omega arith in z) in
-    elim c.if-check_symbol-ne0.branch [
-      | then-check_symbol-ne0 w ↦ (omega (arith, w.count-is, distance_other p (codeword C u) [] (λ e. w.if-check_symbol-ne0.true (c.check_symbol.ensures ∙ sym at ∙ e))), omega (arith, w.count-is))
-      | else-check_symbol-ne0 w ↦ (omega (arith, w.count-is, distance_same p (codeword C u) [] (at ∙ sym c.check_symbol.ensures ∙ w.if-check_symbol-ne0.false)), omega (arith, w.count-is))
+    elim c.if-checks-j-ne0.branch [
+      | then-checks-j-ne0 w ↦ (omega (arith, w.count-is, distance_other p (codeword C u) [] (λ e. w.if-checks-j-ne0.true (c.check_symbols-checks.ensures c.loop-j.j (omega arith) ∙ sym at ∙ e))), omega (arith, w.count-is))
+      | else-checks-j-ne0 w ↦ (omega (arith, w.count-is, distance_same p (codeword C u) [] (at ∙ sym (c.check_symbols-checks.ensures c.loop-j.j (omega arith)) ∙ w.if-checks-j-ne0.false)), omega (arith, w.count-is))
     ]
 
 pub returns : goal.returns

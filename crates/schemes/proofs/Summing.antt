@@ -1,0 +1,44 @@
+-- Check symbols that are summed row by row.
+use Rattle.std.proofs.Common.{◌≡◌, ℕ, suc, ◌+◌, ◌-◌, ◌*◌, ◌<◌, ◌≤◌, cond, ltb, List, length, get_or, replicate, sym, refl, ap, ◌∙◌, ap₂, suc-mul, add-one, arith, lt-ltb}
+use lib.ListN.{get_or-replicate}
+use Rattle.std.proofs.lemmas.Nat.{mul-le}
+use Rattle.std.proofs.lemmas.List.FromFn.{length-map-range_with_len, get_or-map-range_with_len}
+use Rattle.symbols.specs.Ring.{RingRules, plus, times, total, added}
+use Rattle.symbols.proofs.Sums.{total_below, zero-times, plus-zero}
+use Rattle.codes.specs.Code.{Code, term}
+
+-- row i of k rows lies within them
+pub row_fits : (i k w size : ℕ) → i < k → size ≡ k * w → i * w + w ≤ size
+row_fits i k w size h e = omega (arith, suc-mul i w, mul-le (suc i) w k w h (omega arith))
+
+-- the sums of the first i rows
+abbrev pub Summed : Code → List ℕ → ℕ → List ℕ → Type 0
+Summed C u i sums = (length sums ≡ 64) × ((j : ℕ) → j < C.n - C.k → get_or sums j 0 ≡ total C.ring i (term C u j))
+
+module _ (C : Code) (u : List ℕ) where
+  pub summed_none : C.n ≤ 64 → Summed C u 0 (replicate 64 0)
+  summed_none few = (refl, λ j h. get_or-replicate 64 j 0 0 (omega arith))
+
+  pub summed_more : (i x : ℕ) (row sums new : List ℕ) → C.n ≤ 64 → x ≡ get_or u i 0 → length row ≡ C.n - C.k
+      → ((j : ℕ) → j < C.n - C.k → get_or row j 0 ≡ get_or C.rows (i * (C.n - C.k) + j) 0)
+      → new ≡ added C.ring x row sums → Summed C u i sums → Summed C u (i + 1) new
+  summed_more i x row sums new few e long codes is (all, sum) = (
+    ap length is ∙ length-map-range_with_len _ 0 (length sums) ∙ all,
+    λ j h.
+        ap (λ l. get_or l j 0) is
+        ∙ get_or-map-range_with_len (λ j. cond (ltb j (length row)) (plus C.ring (get_or sums j 0) (times C.ring x (get_or row j 0))) (get_or sums j 0)) 0 (length sums) j j 0 (omega arith) (omega arith)
+        ∙ ap (λ b. cond b (plus C.ring (get_or sums j 0) (times C.ring x (get_or row j 0))) (get_or sums j 0)) (lt-ltb j (length row) (omega arith))
+        ∙ ap₂ (plus C.ring) (sum j h) (ap₂ (times C.ring) e (codes j h))
+        ∙ ap (λ (m : ℕ). total C.ring m (term C u j)) (sym (add-one i)),
+  )
+
+  pub summed_same : (i : ℕ) (sums : List ℕ) → RingRules C.ring → get_or u i 0 ≡ 0 → Summed C u i sums → Summed C u (i + 1) sums
+  summed_same i sums rules z (all, sum) = (
+    all,
+    λ j h.
+        sum j h
+        ∙ sym (plus-zero C.ring rules (total C.ring i (term C u j)) (total_below C.ring rules i (term C u j)))
+        ∙ ap (plus C.ring (total C.ring i (term C u j)))
+        (sym (ap (λ x. times C.ring x (get_or C.rows (i * (C.n - C.k) + j) 0)) z ∙ zero-times C.ring rules (get_or C.rows (i * (C.n - C.k) + j) 0)))
+        ∙ ap (λ (m : ℕ). total C.ring m (term C u j)) (sym (add-one i)),
+  )
