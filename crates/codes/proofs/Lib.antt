@@ -12,3 +12,4 @@ pub mod Visited
 pub mod Found
 pub mod Messages
 pub mod Offending
+pub mod Counting

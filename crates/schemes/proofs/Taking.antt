@@ -1,137 +1,107 @@
--- A block taken by a permutation, and the words of an attempt.
-use Rattle.std.proofs.Common.{◌≡◌, ℕ, suc, ◌+◌, ◌<◌, ◌≤◌, true, false, eqb, ◌≢◌, List, length, get_or, take, set, is_some, Some, sym, refl, ap, ◌∙◌, ⊎_elim, arith, length-set, below_more}
-use Rattle.std.proofs.lemmas.List.{get_or-set_same, get_or-set_other, ext_get_or}
-use Rattle.std.proofs.lemmas.List.FromFn.{fill_by_all}
-use Rattle.std.proofs.lemmas.Bool.{cases_eq, eq-eqb, ne_eqb}
-use Rattle.lists.specs.declared.Targets.{Targets}
+-- Words that are taken by a permutation, and the positions that show that there is none.
+use Rattle.std.proofs.Common.{◌≡◌, ℕ, suc, ◌+◌, ◌<◌, ◌≤◌, Bool, true, false, eqb, ◌≢◌, List, length, get_or, take, set, replicate, is_some, Some, sym, refl, ap, ◌∙◌, ⊎_elim, arith, length-set, below_more}
+use lib.ListN.{get_or-replicate}
+use Rattle.std.proofs.lemmas.List.{get_or-set_same, get_or-set_other, get_or-take, length-take-le}
+use Rattle.std.proofs.lemmas.Bool.{true≢false, cases_eq, eq-eqb, ne_eqb}
 use Rattle.lists.specs.Told.{told}
-use Rattle.codes.specs.Code.{Code, codeword, distance, Permutation, moved, returned, candidate}
+use Rattle.codes.specs.Code.{Permutation, moved}
 use Rattle.codes.specs.Search.{least}
-use Rattle.codes.proofs.Places.{moved_only, distance_returned, distance_same, distance_other, distance-mono, distance-zero}
+use Rattle.codes.specs.Offenders.{clashes, bad_place}
+use Rattle.codes.proofs.Places.{moved_only}
 use Rattle.codes.proofs.Found.{least-some, least-none}
-use Rattle.schemes.specs.Taken.{Taken}
+use Rattle.schemes.specs.declared.scheme.permuting.Taken.{Taken}
+use Rattle.schemes.specs.Takes.{Takes}
+use Rattle.schemes.proofs.Bounds.{le-leb, gt_leb, or_left, or_right, or_neither}
 
--- where each place came from, after the first p places; 255 where none came
-abbrev pub Come : ℕ → (ℕ → ℕ) → ℕ → List ℕ → Type 0
-Come n σ p sources =
-    (length sources ≡ 64)
-    × ((r : ℕ) → r < p → σ r < n)
-    × ((r : ℕ) → r < p → get_or sources (σ r) 0 ≡ r)
-    × ((s : ℕ) → s < 64 → (get_or sources s 0 ≡ 255 → ⊥) → (get_or sources s 0 < p) × (σ (get_or sources s 0) ≡ s))
+-- after the first p positions, which have different targets below n: the targets that came
+pub record Come (n : ℕ) (σ : ℕ → ℕ) (p : ℕ) (came : List Bool) : Type 0 where
+  pub long : length came ≡ 64
+  pub below : (r : ℕ) → r < p → σ r < n
+  pub comes : (r : ℕ) → r < p → get_or came (σ r) false ≡ true
+  pub back : (s : ℕ) → s < 64 → get_or came s false ≡ true → (r : ℕ) × (r < p) × (σ r ≡ s)
+  pub once : (a b : ℕ) → a < p → b < p → σ a ≡ σ b → a ≡ b
 
 -- and the word so far
-abbrev pub Moving : ℕ → (ℕ → ℕ) → ℕ → List ℕ → List ℕ → List ℕ → Type 0
-Moving n σ p sources v word = Come n σ p sources × (length word ≡ n) × ((r : ℕ) → r < p → get_or word (σ r) 0 ≡ get_or v r 0)
+pub record Moving (n : ℕ) (σ : ℕ → ℕ) (p : ℕ) (came : List Bool) (v word : List ℕ) : Type 0 where
+  pub come : Come n σ p came
+  pub long : length word ≡ 64
+  pub moves : (r : ℕ) → r < p → get_or word (σ r) 0 ≡ get_or v r 0
 
 module _ (n : ℕ) (σ : ℕ → ℕ) (few : n ≤ 64) where
-  pub come_none : (sources : List ℕ) → length sources ≡ 64 → ((s : ℕ) → s < 64 → get_or sources s 0 ≡ 255) → Come n σ 0 sources
-  come_none sources long all = (long, (λ r h. absurd (omega arith)), (λ r h. absurd (omega arith)), (λ s h ne. absurd (ne (all s h))))
+  pub come_none : Come n σ 0 (replicate 64 false)
+  come_none = record {
+    long = refl;
+    below = λ r h. absurd (omega arith);
+    comes = λ r h. absurd (omega arith);
+    back = λ s h e. absurd (true≢false (sym e ∙ get_or-replicate 64 s false false h));
+    once = λ a b h _ _. absurd (omega arith);
+  }
 
-  pub come_more : (p to : ℕ) (sources : List ℕ) → p < n → to ≡ σ p → to < n → get_or sources to 0 ≡ 255 → Come n σ p sources → Come n σ (p + 1) (set sources to p)
-  come_more p to sources h is low free (long, below, comes, back) = (
-    length-set sources to p ∙ long,
-    below_more _ _ below (omega arith),
-    below_more _ _
-        (λ r l. let ne : σ r ≢ to = λ e. (let z : r ≡ 255 = sym (comes r l) ∙ ap (λ s. get_or sources s 0) e ∙ free in omega arith) in get_or-set_other sources to (σ r) p 0 ne ∙ comes r l)
-        (ap (λ s. get_or (set sources to p) s 0) (sym is) ∙ get_or-set_same sources to p 0 (omega arith)),
-    (λ s l ne. ⊎_elim
-        (λ e. let here : get_or (set sources to p) s 0 ≡ p = ap (λ x. get_or (set sources to p) x 0) e ∙ get_or-set_same sources to p 0 (omega arith) in
-        (omega arith, ap σ here ∙ sym is ∙ sym e))
-        (λ d. let there : get_or (set sources to p) s 0 ≡ get_or sources s 0 = get_or-set_other sources to s p 0 d in
-        let old = back s l (λ z. ne (there ∙ z)) in
-        (omega arith, ap σ there ∙ old.1))
-        (cases_eq s to)),
-  )
+  -- a target that has not come is no target of an earlier position
+  fresh : (p to : ℕ) (came : List Bool) → get_or came to false ≡ false → Come n σ p came → (r : ℕ) → r < p → σ r ≢ to
+  fresh p to came free c r h e = true≢false (sym (c.comes r h) ∙ ap (λ s. get_or came s false) e ∙ free)
 
-  -- a target that has come already is no target of a permutation
-  pub come_twice : (p to : ℕ) (sources : List ℕ) → p < n → to ≡ σ p → to < n → (get_or sources to 0 ≡ 255 → ⊥) → Come n σ p sources → Permutation n σ → ⊥
-  come_twice p to sources h is low taken (long, below, comes, back) perm =
-      let old = back to (omega arith) taken in
-      let z : get_or sources to 0 ≡ p = perm.1 _ p (omega arith) h (old.1 ∙ is) in
-      omega arith
-
-  -- the search for an earlier position with the same target, when one came
-  pub come_earlier : (p to : ℕ) (sources : List ℕ) → p ≤ n → to < n → (get_or sources to 0 ≡ 255 → ⊥) → Come n σ p sources → is_some (least (λ s. eqb (σ s) to) 0 p) ≡ true
-  come_earlier p to sources h low taken (long, below, comes, back) =
-      let old = back to (omega arith) taken in
-      ap is_some
-      (least-some (λ s. eqb (σ s) to) 0 p (get_or sources to 0) (omega arith) (omega arith) (eq-eqb _ _ old.1)
-      (λ y _ l. ne_eqb _ _ (λ e. (let z : get_or sources to 0 ≡ y = ap (λ s. get_or sources s 0) (sym e) ∙ comes y (omega arith) in omega arith))))
-
-  -- and when none came
-  pub come_first : (p to : ℕ) (sources : List ℕ) → p ≤ n → get_or sources to 0 ≡ 255 → Come n σ p sources → is_some (least (λ s. eqb (σ s) to) 0 p) ≡ false
-  come_first p to sources h free (long, below, comes, back) =
-      ap is_some
-      (least-none (λ s. eqb (σ s) to) 0 p
-      (λ y _ l. ne_eqb _ _ (λ e. (let z : y ≡ 255 = sym (comes y (omega arith)) ∙ ap (λ s. get_or sources s 0) e ∙ free in omega arith))))
-
-  pub moving_more : (p to x : ℕ) (sources v word : List ℕ) → p < n → to ≡ σ p → to < n → get_or sources to 0 ≡ 255 → x ≡ get_or v p 0
-      → Moving n σ p sources v word → Moving n σ (p + 1) (set sources to p) v (set word to x)
-  moving_more p to x sources v word h is low free e (come, long, moves) = (
-    come_more p to sources h is low free come,
-    length-set word to x ∙ long,
-    below_more _ _
-        (λ r l. let ne : σ r ≢ to = λ q. (let z : r ≡ 255 = sym (come.2 r l) ∙ ap (λ s. get_or sources s 0) q ∙ free in omega arith) in get_or-set_other word to (σ r) x 0 ne ∙ moves r l)
-        (ap (λ s. get_or (set word to x) s 0) (sym is) ∙ get_or-set_same word to x 0 (omega arith) ∙ e),
-  )
-
-  pub moving_all : (sources v word : List ℕ) (s : Targets) → ((p : ℕ) → p < n → told s p ≡ Some (σ p)) → Moving n σ n sources v word → Taken n σ s v word
-  moving_all sources v word s goes (come, long, moves) =
-      let perm : Permutation n σ = (come.1, λ a b ha hb e. sym (come.2 a ha) ∙ ap (λ x. get_or sources x 0) e ∙ come.2 b hb) in
-      record { permutes = perm; goes = goes; moves = moved_only n σ perm v word long moves }
-
-  pub word_returned : (w out : List ℕ) → length out ≡ n → ((s : ℕ) → s < n → get_or out s 0 ≡ get_or w (σ s) 0) → out ≡ returned n σ w
-  word_returned w out long at = fill_by_all (λ p. get_or w (σ p) 0) out n 0 long (λ p h. at p h)
-
--- the loop that sets check symbols: p is the next place, v the word as it came
-abbrev pub Setting : List ℕ → List ℕ → ℕ → ℕ → List ℕ → ℕ → Type 0
-Setting v w t changed word p =
-    (changed ≡ distance p v w)
-    × (changed ≤ t)
-    × ((r : ℕ) → r < p → get_or word r 0 ≡ get_or w r 0)
-    × ((r : ℕ) → p ≤ r → get_or word r 0 ≡ get_or v r 0)
-
-module _ (v w : List ℕ) (t : ℕ) where
-  pub setting_none : (k : ℕ) → ((r : ℕ) → r < k → get_or v r 0 ≡ get_or w r 0) → Setting v w t 0 v k
-  setting_none k same = (sym (distance-zero k v w same), omega arith, same, λ r h. refl)
-
-  pub setting_same : (changed p : ℕ) (word : List ℕ) → get_or word p 0 ≡ get_or w p 0 → Setting v w t changed word p → Setting v w t changed word (p + 1)
-  setting_same changed p word e (d, few, front, rest) = (
-    omega (arith, distance_same p v w (sym (rest p (omega arith)) ∙ e), next p),
-    few,
-    below_more _ _ front e,
-    λ r h. rest r (omega arith),
-  )
+  come_more : (p to : ℕ) (came : List Bool) → to ≡ σ p → to < n → get_or came to false ≡ false → Come n σ p came → Come n σ (p + 1) (set came to true)
+  come_more p to came is low free c = record {
+    long = length-set came to true ∙ c.long;
+    below = below_more _ _ c.below (omega arith);
+    comes = below_more _ _
+        (λ r h. get_or-set_other came to (σ r) true false (fresh p to came free c r h) ∙ c.comes r h)
+        (ap (λ s. get_or (set came to true) s false) (sym is) ∙ get_or-set_same came to true false (omega (arith, c.long)));
+    back = λ s h e. ⊎_elim
+        (λ q. (p, omega arith, sym is ∙ sym q))
+        (λ ne. let old = c.back s h (sym (get_or-set_other came to s true false ne) ∙ e) in (old.0, omega arith, old.2))
+        (cases_eq s to);
+    once = once_more;
+  }
     where
-      next : (q : ℕ) → distance (q + 1) v w ≡ distance (suc q) v w
-      next q = ap (λ m. distance m v w) (let z : q + 1 ≡ suc q = omega arith in z)
+      once_more : (a b : ℕ) → a < p + 1 → b < p + 1 → σ a ≡ σ b → a ≡ b
+      once_more a b ha hb e =
+          ⊎_elim
+          (λ x. ⊎_elim (λ y. x ∙ sym y) (λ y. absurd (fresh p to came free c b (omega arith) (sym e ∙ ap σ x ∙ sym is))) (cases_eq b p))
+          (λ x. ⊎_elim (λ y. absurd (fresh p to came free c a (omega arith) (e ∙ ap σ y ∙ sym is))) (λ y. c.once a b (omega arith) (omega arith) e) (cases_eq b p))
+          (cases_eq a p)
 
-  pub setting_more : (changed p y : ℕ) (word : List ℕ) → p < length word → y ≡ get_or w p 0 → (get_or word p 0 ≡ y → ⊥) → changed + 1 ≤ t → Setting v w t changed word p → Setting v w t (changed + 1) (set word p y) (p + 1)
-  setting_more changed p y word h is other room (d, few, front, rest) = (
-    omega (arith, distance_other p v w (λ e. other (rest p (omega arith) ∙ e ∙ sym is)), next p),
-    room,
-    below_more _ _ (λ r l. let ne : r ≢ p = omega arith in get_or-set_other word p r y 0 ne ∙ front r l) (get_or-set_same word p y 0 h ∙ is),
-    λ r l. let ne : r ≢ p = omega arith in get_or-set_other word p r y 0 ne ∙ rest r (omega arith),
-  )
-    where
-      next : (q : ℕ) → distance (q + 1) v w ≡ distance (suc q) v w
-      next q = ap (λ m. distance m v w) (let z : q + 1 ≡ suc q = omega arith in z)
+  -- no earlier position clashes
+  clear : (p : ℕ) (came : List Bool) → Come n σ p came → (r : ℕ) → r < p → clashes n σ r ≡ false
+  clear p came c r h =
+      or_neither _ _ (gt_leb n (σ r) (c.below r h))
+      (ap is_some (least-none (λ s. eqb (σ s) (σ r)) 0 r (λ y _ l. ne_eqb _ _ (λ e. let z = c.once y r (omega arith) h e in omega arith))))
 
-  -- one change too many
-  pub setting_over : (changed p y n : ℕ) (word : List ℕ) → p < n → y ≡ get_or w p 0 → (get_or word p 0 ≡ y → ⊥) → t < changed + 1 → Setting v w t changed word p → t < distance n v w
-  setting_over changed p y n word h is other over (d, few, front, rest) =
-      omega (arith, distance_other p v w (λ e. other (rest p (omega arith) ∙ e ∙ sym is)), distance-mono (suc p) n v w (omega arith))
+  bad_at : (p : ℕ) (came : List Bool) → p < n → clashes n σ p ≡ true → Come n σ p came → bad_place n σ ≡ Some p
+  bad_at p came h here c = least-some (clashes n σ) 0 n p (omega arith) (omega arith) here (λ y _ l. clear p came c y l)
 
-  pub setting_all : (changed p n : ℕ) (word : List ℕ) → p ≡ n → length word ≡ n → length w ≡ n → Setting v w t changed word p → (changed ≡ distance n v w) × (changed ≤ t) × (word ≡ w)
-  setting_all changed p n word e lw l (d, few, front, rest) =
-      (d ∙ ap (λ m. distance m v w) e, few, ext_get_or 0 word w (lw ∙ sym l) (λ r h. front r (omega arith)))
+  -- a target of n or more, and one that came before
+  pub bad_high : (p to : ℕ) (came : List Bool) → p < n → to ≡ σ p → n ≤ to → Come n σ p came → bad_place n σ ≡ Some p
+  bad_high p to came h is high c = bad_at p came h (or_left _ _ (le-leb n (σ p) (omega arith))) c
 
--- the candidate of an attempt, from its words one after another
-module _ (C : Code) (σ : ℕ → ℕ) (perm : Permutation C.n σ) (v word : List ℕ) (block : word ≡ moved C.n σ v) where
-  pub distance-candidate : distance C.n word (codeword C (take C.k word)) ≡ distance C.n v (candidate C σ v)
-  distance-candidate =
-      ap (λ x. distance C.n x (codeword C (take C.k x))) block
-      ∙ sym (distance_returned C.n σ perm v (codeword C (take C.k (moved C.n σ v))))
+  pub bad_twice : (p to : ℕ) (came : List Bool) → p < n → to ≡ σ p → to < n → get_or came to false ≡ true → Come n σ p came → bad_place n σ ≡ Some p
+  bad_twice p to came h is low taken c =
+      let old = c.back to (omega arith) taken in
+      bad_at p came h
+      (or_right _ _ (ap is_some
+      (least-some (λ s. eqb (σ s) (σ p)) 0 p old.0 (omega arith) (omega arith) (eq-eqb _ _ (old.2 ∙ is))
+      (λ y _ l. ne_eqb _ _ (λ e. let z = c.once y old.0 (omega arith) (omega arith) (e ∙ sym is ∙ sym old.2) in omega arith))))) c
 
-  pub candidate_out : (image out : List ℕ) → image ≡ codeword C (take C.k word) → out ≡ returned C.n σ image → out ≡ candidate C σ v
-  candidate_out image out e f = f ∙ ap (returned C.n σ) (e ∙ ap (λ x. codeword C (take C.k x)) block)
+  pub moving_none : (v : List ℕ) → Moving n σ 0 (replicate 64 false) v (replicate 64 0)
+  moving_none v = record { come = come_none; long = refl; moves = λ r h. absurd (omega arith) }
+
+  pub moving_more : (p to : ℕ) (came : List Bool) (v word : List ℕ) → to ≡ σ p → to < n → get_or came to false ≡ false
+      → Moving n σ p came v word → Moving n σ (p + 1) (set came to true) v (set word to (get_or v p 0))
+  moving_more p to came v word is low free m = record {
+    come = come_more p to came is low free m.come;
+    long = length-set word to (get_or v p 0) ∙ m.long;
+    moves = below_more _ _
+        (λ r h. get_or-set_other word to (σ r) (get_or v p 0) 0 (fresh p to came free m.come r h) ∙ m.moves r h)
+        (ap (λ s. get_or (set word to (get_or v p 0)) s 0) (sym is) ∙ get_or-set_same word to (get_or v p 0) 0 (omega (arith, m.long)));
+  }
+
+  pub moving_all : (came : List Bool) (v : List ℕ) (x : Taken) → ((p : ℕ) → p < n → told x.targets p ≡ Some (σ p)) → Moving n σ n came v x.word → Takes n σ v x
+  moving_all came v x goes m =
+      let perm : Permutation n σ = (m.come.below, m.come.once) in
+      record {
+        permutes = perm;
+        goes = goes;
+        moves = moved_only n σ perm v (take n x.word) (length-take-le n x.word (omega (arith, m.long)))
+            (λ p h. get_or-take n x.word (σ p) 0 (m.come.below p h) ∙ m.moves p h);
+      }

@@ -1,3 +1,3 @@
 pub mod Told
-pub mod Shuffle
-pub mod Taken
+pub mod Lent
+pub mod Takes

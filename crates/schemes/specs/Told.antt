@@ -27,7 +27,7 @@ abbrev pub counts : Tally → Counts
 counts t = record { blocks = t.blocks; clean = t.clean; mended = t.mended; lost = t.lost; symbols = t.symbols }
 
 abbrev pub tallied : Live → Counts
-tallied s = counts s.tally
+tallied s = counts s.count.tally
 
 -- The trial of a draft: a live scheme of its numbers with an empty tally, or the same draft with the first refusal.
 abbrev pub Tried : Plan → Handed → Result Live Rejected → Type 0

@@ -5,6 +5,7 @@ use faults::Fault;
 
 mod attempting;
 mod calling;
+mod counts;
 mod drafting;
 mod marking;
 mod permuting;
@@ -29,7 +30,7 @@ pub struct Draft {
 }
 
 // How the blocks since the start or the last close fared.
-#[derive(Clone, Copy, PartialEq, Eq, Debug)]
+#[derive(Clone, Copy, PartialEq, Eq, Debug, Default)]
 pub struct Tally {
     pub blocks: u32,
     pub clean: u32,
@@ -38,15 +39,21 @@ pub struct Tally {
     pub symbols: u32,
 }
 
+// A tally as a live scheme keeps it.
+#[derive(Clone, Copy)]
+struct Count {
+    tally: Tally,
+    ghost room: { tally.blocks ≤ 1000000 },
+    ghost parts: { tally.clean + tally.mended + tally.lost ≡ tally.blocks },
+    ghost sum: { tally.symbols ≤ 5 * tally.mended },
+}
+
 // A draft that has passed its trial, with the number of permutations that it was tried with.
 #[derive(Drop)]
 pub struct Live {
     draft: Draft,
     m: u16,
-    tally: Tally,
-    ghost room: { tally.blocks ≤ 1000000 },
-    ghost parts: { tally.clean + tally.mended + tally.lost ≡ tally.blocks },
-    ghost sum: { tally.symbols ≤ 5 * tally.mended },
+    count: Count,
 }
 
 // A draft that a trial hands back, with the refusal.

@@ -1,205 +1,159 @@
 // Attempts: a block taken by a permutation, its first symbols encoded anew, and the codeword brought back.
-ghost use Rattle.std.specs.Prelude.{◌≡◌, ℕ, ◌+◌, ◌-◌, ◌*◌, ◌<◌, ◌≤◌, length, take, Some, MatchOption, slice_index};
+ghost use Rattle.std.specs.Prelude.{◌≡◌, ℕ, ◌<◌, ◌≤◌, length, take, Some, MatchOption, slice_index};
 ghost use Rattle.lists.specs.Told.{told};
-ghost use Rattle.codes.specs.Code.{code, codeword, Symbols, distance, Permutation, candidate, Succeeds, First};
+ghost use Rattle.codes.specs.Code.{unit};
 
-use crate::scheme::permuting::take_by;
-use crate::scheme::words::{check_symbols, is_codeword};
+use crate::scheme::counts::distance;
+use crate::scheme::permuting::Listed;
+use crate::scheme::words::{Code, Word};
 use lists::{Permutations, Targets};
 use symbols::Kind;
 
+// What correct works with: a code, a list for its places, and up to t errors.
+#[derive(Drop)]
+pub(crate) struct Fitted<'c, 'l, K, L: Permutations> {
+    pub(crate) code: Code<'c, K>,
+    pub(crate) list: Listed<'l, L>,
+    pub(crate) t: u8,
+    ghost same: { code.n ≡ list.n },
+    ghost limit: { t ≤ 5 },
+}
+
+// An attempt that succeeds: the distance, its number, and its word in the first n places.
+#[derive(Clone, Copy)]
+struct Success {
+    distance: u8,
+    number: u16,
+    word: Word,
+}
+
 // Brings a word back: the symbol of each place is that at the place's target.
-fn bring_back(word: &[u8], targets: &Targets, out: &mut [u8])
-    requires few { length out.old ≤ 64 }
-    requires within { (s : ℕ) → s < length out.old → (to : ℕ) × (told targets.now s ≡ Some to) × (to < length word.now) }
-    ensures { (s to : ℕ) → s < length out.old → told targets.now s ≡ Some to → slice_index out.new s ≡ slice_index word.now to }
+fn bring_back(word: &[u8], targets: &Targets) -> Word
+    requires few { length word.now ≤ 64 }
+    requires within { (p : ℕ) → p < length word.now → (to : ℕ) × (told targets.now p ≡ Some to) × (to < length word.now) }
+    ensures { (p to : ℕ) → p < length word.now → told targets.now p ≡ Some to → slice_index result p ≡ slice_index word.now to }
 {
-    for s in 0..out.len() {
-        let Some(to) = targets.target(s as u8) else {
+    let mut back = [0u8; 64];
+    for p in 0..word.len() {
+        let Some(to) = targets.target(p as u8) else {
             return unreachable();
         };
-        out[s] = word[to as usize];
+        back[p] = word[to as usize];
     }
+    back
 }
 
-// Gives the word the check symbols of its first k symbols, and answers in how many places it changed; none where these are more than t.
-fn set_checks<K: Kind>(
-    kind: &K,
-    n: usize,
-    k: usize,
-    rows: &[u8],
-    t: u8,
-    word: &mut [u8],
-) -> Option<u8>
-    requires order { (k < n) × (n ≤ 64) × (t ≤ 5) }
-    requires size { length rows.now ≡ k * (n - k) }
-    requires long { length word.old ≡ n }
-    ensures { MatchOption result (t < distance n word.old (codeword (code (K.ring kind.now) n k rows.now) (take k word.old)))
-        (λ d. (d ≡ distance n word.old (codeword (code (K.ring kind.now) n k rows.now) (take k word.old))) × (d ≤ t) × (word.new ≡ codeword (code (K.ring kind.now) n k rows.now) (take k word.old))) }
+// The unit message j: a 1 at information place j, and 0 elsewhere.
+fn unit(j: usize) -> [u8; 16]
+    requires { j < 16 }
+    ensures { (k : ℕ) → k ≤ 16 → take k result ≡ unit k j }
 {
-    let checks = check_symbols(kind, n, k, rows, &word[0..k]);
-    let mut changed = 0u8;
-    for j in 0..n - k {
-        let symbol = checks[j];
-        if word[k + j] != symbol {
-            changed += 1;
-            if changed > t {
-                return None;
+    let mut message = [0u8; 16];
+    message[j] = 1;
+    message
+}
+
+impl<'c, 'l, K: Kind, L: Permutations> Fitted<'c, 'l, K, L> {
+    ghost use Rattle.codes.specs.Code.{Symbols, distance, Permutation, candidate, Succeeds, First};
+    ghost use Rattle.codes.specs.Offenders.{unkept_unit, unkept};
+    ghost use Rattle.schemes.specs.Lent.{code_lent};
+    ghost use Rattle.schemes.specs.Takes.{Candidate};
+
+    // Attempt i on the block v, or none where it fails.
+    fn attempt(&self, i: u16, v: &[u8]) -> Option<Success>
+        requires within { i < (L.meaning self.now.list.list.now).count }
+        requires block { Symbols (K.ring self.now.code.kind.now).q self.now.code.n v.now }
+        ensures { MatchOption result (Succeeds (code_lent K.ring self.now.code) self.now.t ((L.meaning self.now.list.list.now).target i) v.now → ⊥)
+            (λ x. (x.number ≡ i) × Succeeds (code_lent K.ring self.now.code) self.now.t ((L.meaning self.now.list.list.now).target i) v.now
+            × Candidate (code_lent K.ring self.now.code) (L.meaning self.now.list.list.now).target v.now x) }
+    {
+        let n = self.code.n;
+        let Ok(taken) = self.list.take(i, v) else {
+            return None;
+        };
+        let codeword = self.code.codeword(&taken.word[..self.code.k]);
+        let d = distance(&taken.word[..n], &codeword[..n]);
+        if d > self.t as usize {
+            return None;
+        }
+        let word = bring_back(&codeword[..n], &taken.targets);
+        if !self.code.is_codeword(&word[..n]) {
+            return None;
+        }
+        Some(Success {
+            distance: d as u8,
+            number: i,
+            word,
+        })
+    }
+
+    // The first attempt that succeeds.
+    fn first_success(&self, v: &[u8]) -> Option<Success>
+        requires block { Symbols (K.ring self.now.code.kind.now).q self.now.code.n v.now }
+        ensures { MatchOption result ((i : ℕ) → i < (L.meaning self.now.list.list.now).count → Succeeds (code_lent K.ring self.now.code) self.now.t ((L.meaning self.now.list.list.now).target i) v.now → ⊥)
+            (λ x. (x.number < (L.meaning self.now.list.list.now).count)
+            × First (code_lent K.ring self.now.code) self.now.t (L.meaning self.now.list.list.now).target v.now x.number
+            × Candidate (code_lent K.ring self.now.code) (L.meaning self.now.list.list.now).target v.now x) }
+    {
+        let m = self.list.list.count();
+        let mut i = 0;
+        let found = loop {
+            if i >= m {
+                break None;
             }
-            word[k + j] = symbol;
-        }
+            if let Some(success) = self.attempt(i, v) {
+                break Some(success);
+            }
+            i += 1;
+        };
+        found
     }
-    Some(changed)
-}
 
-// Attempt i on the block v, with room for a word: the distance and, in `out`, the word brought back, or none where it fails.
-fn attempt_in<K: Kind, L: Permutations>(
-    kind: &K,
-    list: &L,
-    i: u16,
-    n: usize,
-    k: usize,
-    t: u8,
-    rows: &[u8],
-    v: &[u8],
-    word: &mut [u8],
-    out: &mut [u8],
-) -> Option<u8>
-    requires order { (k < n) × (n ≤ 64) × (t ≤ 5) }
-    requires size { length rows.now ≡ k * (n - k) }
-    requires within { i < (L.meaning list.now).count }
-    requires long { n ≡ (L.meaning list.now).places }
-    requires block { Symbols (K.ring kind.now).q n v.now }
-    requires room { (length word.old ≡ n) × (length out.old ≡ n) }
-    ensures { MatchOption result (Succeeds (code (K.ring kind.now) n k rows.now) t ((L.meaning list.now).target i) v.now → ⊥)
-        (λ d. Succeeds (code (K.ring kind.now) n k rows.now) t ((L.meaning list.now).target i) v.now
-        × (out.new ≡ candidate (code (K.ring kind.now) n k rows.now) ((L.meaning list.now).target i) v.now)
-        × (d ≡ distance n v.now out.new)) }
-{
-    let Some(targets) = take_by(list, i, n, v, word) else {
-        return None;
-    };
-    let Some(d) = set_checks(kind, n, k, rows, t, word) else {
-        return None;
-    };
-    bring_back(word, &targets, out);
-    if !is_codeword(kind, n, k, rows, out) {
-        return None;
+    // The distance and the number of the first attempt that succeeds, with its word in `out`; where none does, `out` stays.
+    pub(crate) fn correct_into(&self, v: &[u8], out: &mut [u8]) -> Option<(u8, u16)>
+        requires block { Symbols (K.ring self.now.code.kind.now).q self.now.code.n v.now }
+        requires room { length out.old ≡ self.now.code.n }
+        ensures { MatchOption result (((i : ℕ) → i < (L.meaning self.now.list.list.now).count → Succeeds (code_lent K.ring self.now.code) self.now.t ((L.meaning self.now.list.list.now).target i) v.now → ⊥) × (out.new ≡ out.old))
+            (λ x. (x.1 < (L.meaning self.now.list.list.now).count)
+            × First (code_lent K.ring self.now.code) self.now.t (L.meaning self.now.list.list.now).target v.now x.1
+            × (out.new ≡ candidate (code_lent K.ring self.now.code) ((L.meaning self.now.list.list.now).target x.1) v.now)
+            × (x.0 ≡ distance self.now.code.n v.now out.new)) }
+    {
+        let success = self.first_success(v)?;
+        out.copy_from_slice(&success.word[..self.code.n]);
+        Some((success.distance, success.number))
     }
-    Some(d)
-}
 
-// Attempt i on the block v: the distance and, in `out`, the word, or none where it fails.
-fn attempt<K: Kind, L: Permutations>(
-    kind: &K,
-    list: &L,
-    i: u16,
-    n: usize,
-    k: usize,
-    t: u8,
-    rows: &[u8],
-    v: &[u8],
-    out: &mut [u8],
-) -> Option<u8>
-    requires order { (k < n) × (n ≤ 64) × (t ≤ 5) }
-    requires size { length rows.now ≡ k * (n - k) }
-    requires within { i < (L.meaning list.now).count }
-    requires long { n ≡ (L.meaning list.now).places }
-    requires block { Symbols (K.ring kind.now).q n v.now }
-    requires room { length out.old ≡ n }
-    ensures { MatchOption result (Succeeds (code (K.ring kind.now) n k rows.now) t ((L.meaning list.now).target i) v.now → ⊥)
-        (λ d. Succeeds (code (K.ring kind.now) n k rows.now) t ((L.meaning list.now).target i) v.now
-        × (out.new ≡ candidate (code (K.ring kind.now) n k rows.now) ((L.meaning list.now).target i) v.now)
-        × (d ≡ distance n v.now out.new)) }
-{
-    let mut word = [0u8; 64];
-    attempt_in(kind, list, i, n, k, t, rows, v, &mut word[0..n], out)
-}
-
-// The distance and the number of the first of m attempts that succeeds, with its word in `word`, which any attempt may change.
-fn first_success<K: Kind, L: Permutations>(
-    kind: &K,
-    list: &L,
-    m: u16,
-    n: usize,
-    k: usize,
-    t: u8,
-    rows: &[u8],
-    v: &[u8],
-    word: &mut [u8],
-) -> Option<(u8, u16)>
-    requires all { m ≡ (L.meaning list.now).count }
-    requires order { (k < n) × (n ≤ 64) × (t ≤ 5) }
-    requires size { length rows.now ≡ k * (n - k) }
-    requires long { n ≡ (L.meaning list.now).places }
-    requires block { Symbols (K.ring kind.now).q n v.now }
-    requires room { length word.old ≡ n }
-    ensures { MatchOption result ((i : ℕ) → i < (L.meaning list.now).count → Succeeds (code (K.ring kind.now) n k rows.now) t ((L.meaning list.now).target i) v.now → ⊥)
-        (λ x. (x.1 < (L.meaning list.now).count) × First (code (K.ring kind.now) n k rows.now) t (L.meaning list.now).target v.now x.1
-        × (word.new ≡ candidate (code (K.ring kind.now) n k rows.now) ((L.meaning list.now).target x.1) v.now) × (x.0 ≡ distance n v.now word.new)) }
-{
-    let mut i = 0;
-    let found = loop {
-        if i >= m {
-            break None;
+    // The first unit message whose codeword permutation i takes to no codeword.
+    fn unkept_unit(&self, i: u16) -> Option<u8>
+        requires within { i < (L.meaning self.now.list.list.now).count }
+        requires permutation { Permutation self.now.code.n ((L.meaning self.now.list.list.now).target i) }
+        ensures { result ≡ unkept_unit (code_lent K.ring self.now.code) ((L.meaning self.now.list.list.now).target i) }
+    {
+        let n = self.code.n;
+        for j in 0..self.code.k {
+            let message = unit(j);
+            let word = self.code.codeword(&message[..self.code.k]);
+            let Ok(image) = self.list.take(i, &word[..n]) else {
+                return unreachable();
+            };
+            if !self.code.is_codeword(&image.word[..n]) {
+                return Some(j as u8);
+            }
         }
-        if let Some(d) = attempt(kind, list, i, n, k, t, rows, v, word) {
-            break Some((d, i));
-        }
-        i += 1;
-    };
-    found
-}
-
-// Corrects into a word of its own first, so that a lost block leaves the output as it was.
-fn correct_by<K: Kind, L: Permutations>(
-    kind: &K,
-    list: &L,
-    n: usize,
-    k: usize,
-    t: u8,
-    rows: &[u8],
-    v: &[u8],
-    word: &mut [u8],
-    out: &mut [u8],
-) -> Option<(u8, u16)>
-    requires order { (k < n) × (n ≤ 64) × (t ≤ 5) }
-    requires size { length rows.now ≡ k * (n - k) }
-    requires long { n ≡ (L.meaning list.now).places }
-    requires block { Symbols (K.ring kind.now).q n v.now }
-    requires room { (length word.old ≡ n) × (length out.old ≡ n) }
-    ensures { MatchOption result (((i : ℕ) → i < (L.meaning list.now).count → Succeeds (code (K.ring kind.now) n k rows.now) t ((L.meaning list.now).target i) v.now → ⊥) × (out.new ≡ out.old))
-        (λ x. (x.1 < (L.meaning list.now).count) × First (code (K.ring kind.now) n k rows.now) t (L.meaning list.now).target v.now x.1
-        × (out.new ≡ candidate (code (K.ring kind.now) n k rows.now) ((L.meaning list.now).target x.1) v.now) × (x.0 ≡ distance n v.now out.new)) }
-{
-    let found = first_success(kind, list, list.count(), n, k, t, rows, v, word);
-    if let Some(x) = found {
-        out.copy_from_slice(word);
-        return Some(x);
+        None
     }
-    None
-}
 
-// The distance and the number of the first attempt that succeeds, with its word in `out`; where none does, `out` stays.
-pub(crate) fn correct_into<K: Kind, L: Permutations>(
-    kind: &K,
-    list: &L,
-    n: usize,
-    k: usize,
-    t: u8,
-    rows: &[u8],
-    v: &[u8],
-    out: &mut [u8],
-) -> Option<(u8, u16)>
-    requires order { (k < n) × (n ≤ 64) × (t ≤ 5) }
-    requires size { length rows.now ≡ k * (n - k) }
-    requires long { n ≡ (L.meaning list.now).places }
-    requires block { Symbols (K.ring kind.now).q n v.now }
-    requires room { length out.old ≡ n }
-    ensures { MatchOption result (((i : ℕ) → i < (L.meaning list.now).count → Succeeds (code (K.ring kind.now) n k rows.now) t ((L.meaning list.now).target i) v.now → ⊥) × (out.new ≡ out.old))
-        (λ x. (x.1 < (L.meaning list.now).count) × First (code (K.ring kind.now) n k rows.now) t (L.meaning list.now).target v.now x.1
-        × (out.new ≡ candidate (code (K.ring kind.now) n k rows.now) ((L.meaning list.now).target x.1) v.now) × (x.0 ≡ distance n v.now out.new)) }
-{
-    let mut word = [0u8; 64];
-    correct_by(kind, list, n, k, t, rows, v, &mut word[0..n], out)
+    // The first permutation that takes the codeword of a unit message to no codeword, and the first such message.
+    pub(crate) fn unkept(&self) -> Option<(u16, u8)>
+        requires permutations { (i : ℕ) → i < (L.meaning self.now.list.list.now).count → Permutation self.now.code.n ((L.meaning self.now.list.list.now).target i) }
+        ensures { result ≡ unkept (code_lent K.ring self.now.code) (L.meaning self.now.list.list.now).count (L.meaning self.now.list.list.now).target }
+    {
+        for i in 0..self.list.list.count() {
+            if let Some(j) = self.unkept_unit(i) {
+                return Some((i, j));
+            }
+        }
+        None
+    }
 }

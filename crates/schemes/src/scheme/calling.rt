@@ -4,9 +4,11 @@ ghost use Rattle.promises.specs.Scheme.{handing, none};
 ghost use Rattle.promises.specs.Calls.{objection, Encodes, Corrects, Closes, Withdraws, found, missed};
 ghost use Rattle.schemes.specs.Told.{Answers, planned, kept, counts, tallied, encoding, correcting};
 
-use crate::scheme::attempting::correct_into;
-use crate::scheme::words::{encode_into, first_excess};
-use crate::scheme::{Draft, Live, Tally};
+use crate::scheme::attempting::Fitted;
+use crate::scheme::counts::first_excess;
+use crate::scheme::permuting::Listed;
+use crate::scheme::words::Code;
+use crate::scheme::{Count, Draft, Live, Tally};
 use faults::Fault;
 use lists::Permutations;
 use symbols::Kind;
@@ -14,46 +16,29 @@ use symbols::Kind;
 // The tally takes no more blocks than these.
 const FULL: u32 = 1_000_000;
 
-// The tally with one more block, corrected at distance d.
-fn with_corrected(tally: Tally, d: u8) -> Tally
-    requires room { tally.blocks < 1000000 }
-    requires parts { tally.clean + tally.mended + tally.lost ≡ tally.blocks }
-    requires sum { tally.symbols ≤ 5 * tally.mended }
-    requires few { d ≤ 5 }
-    ensures tally { counts result ≡ found d (counts tally) }
-    ensures room { result.blocks ≤ 1000000 }
-    ensures parts { result.clean + result.mended + result.lost ≡ result.blocks }
-    ensures sum { result.symbols ≤ 5 * result.mended }
-{
-    if d == 0 {
-        Tally {
-            blocks: tally.blocks + 1,
-            clean: tally.clean + 1,
-            ..tally
-        }
-    } else {
-        Tally {
-            blocks: tally.blocks + 1,
-            mended: tally.mended + 1,
-            symbols: tally.symbols + d as u32,
-            ..tally
+impl Count {
+    // Counts a block that is corrected at distance d.
+    fn add_corrected(&mut self, d: u8)
+        requires room { self.old.tally.blocks < 1000000 }
+        requires few { d ≤ 5 }
+        ensures { counts self.new.tally ≡ found d (counts self.old.tally) }
+    {
+        self.tally.blocks += 1;
+        if d == 0 {
+            self.tally.clean += 1;
+        } else {
+            self.tally.mended += 1;
+            self.tally.symbols += d as u32;
         }
     }
-}
 
-// The tally with one more block, lost.
-fn with_lost(tally: Tally) -> Tally
-    requires room { tally.blocks < 1000000 }
-    requires parts { tally.clean + tally.mended + tally.lost ≡ tally.blocks }
-    ensures tally { counts result ≡ missed (counts tally) }
-    ensures room { result.blocks ≤ 1000000 }
-    ensures parts { result.clean + result.mended + result.lost ≡ result.blocks }
-    ensures sum { (result.symbols ≡ tally.symbols) × (result.mended ≡ tally.mended) }
-{
-    Tally {
-        blocks: tally.blocks + 1,
-        lost: tally.lost + 1,
-        ..tally
+    // Counts a block that is lost.
+    fn add_lost(&mut self)
+        requires { self.old.tally.blocks < 1000000 }
+        ensures { counts self.new.tally ≡ missed (counts self.old.tally) }
+    {
+        self.tally.blocks += 1;
+        self.tally.lost += 1;
     }
 }
 
@@ -102,7 +87,8 @@ impl Live {
         let n = self.draft.n as usize;
         let k = self.draft.k as usize;
         self.check(kind, list, rows, k, message, out)?;
-        encode_into(kind, n, k, rows, message, out);
+        let code = Code { kind, rows, n, k };
+        out.copy_from_slice(&code.codeword(message)[..n]);
         Ok(())
     }
 
@@ -121,14 +107,19 @@ impl Live {
         let n = self.draft.n as usize;
         let k = self.draft.k as usize;
         self.check(kind, list, rows, n, block, out)?;
-        if self.tally.blocks >= FULL {
+        if self.count.tally.blocks >= FULL {
             return Err(Fault::TallyFull);
         }
-        let Some((d, i)) = correct_into(kind, list, n, k, self.draft.t, rows, block, out) else {
-            self.tally = with_lost(self.tally);
+        let fitted = Fitted {
+            code: Code { kind, rows, n, k },
+            list: Listed { list, n: self.draft.n },
+            t: self.draft.t,
+        };
+        let Some((d, i)) = fitted.correct_into(block, out) else {
+            self.count.add_lost();
             return Err(Fault::Lost);
         };
-        self.tally = with_corrected(self.tally, d);
+        self.count.add_corrected(d);
         Ok((d, i))
     }
 
@@ -137,13 +128,9 @@ impl Live {
         ensures does { Closes (tallied self.old) (counts result) (tallied self.new) }
         ensures keeps { kept self.new ≡ kept self.old }
     {
-        let tally = self.tally;
-        self.tally = Tally {
-            blocks: 0,
-            clean: 0,
-            mended: 0,
-            lost: 0,
-            symbols: 0,
+        let tally = self.count.tally;
+        self.count = Count {
+            tally: Tally::default(),
         };
         tally
     }
@@ -153,7 +140,7 @@ impl Live {
         ensures draft { planned result.0 ≡ planned self.draft }
         ensures tally { Withdraws (tallied self) (counts result.1) }
     {
-        let Live { draft, m: _, tally } = self;
-        (draft, tally)
+        let Live { draft, m: _, count } = self;
+        (draft, count.tally)
     }
 }

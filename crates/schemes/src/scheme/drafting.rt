@@ -15,14 +15,9 @@ pub(crate) fn message_count(q: u8, k: u8) -> Option<u32>
     requires { 1 ≤ q }
     ensures { MatchOption result (65536 < q ^ k) (λ x. (x ≡ q ^ k) × (x ≤ 65536)) }
 {
-    let mut count = 1u32;
-    for i in 0..k {
-        count *= q as u32;
-        if count > MOST {
-            return None;
-        }
-    }
-    Some(count)
+    (q as u32)
+        .checked_pow(k as u32)
+        .filter(|count| *count <= MOST)
 }
 
 impl Draft {
@@ -30,16 +25,14 @@ impl Draft {
     pub fn new<K: Kind>(n: u8, k: u8, t: u8, kind: &K) -> Result<Draft, Fault>
         ensures { Answers (draft_refusal n k t (K.ring kind.now).q) result (λ d. planned d ≡ plan n k t (K.ring kind.now).q) }
     {
-        if n < 2 || n > 64 || k < 1 || k > 16 || k >= n {
+        if !(2..=64).contains(&n) || !(1..=16).contains(&k) || k >= n {
             return Err(Fault::CodeSize);
         }
-        if t < 1 || t > 5 {
+        if !(1..=5).contains(&t) {
             return Err(Fault::ErrorCount);
         }
         let q = kind.order();
-        let Some(_) = message_count(q, k) else {
-            return Err(Fault::MessageCount);
-        };
+        message_count(q, k).ok_or(Fault::MessageCount)?;
         Ok(Draft { n, k, t, q })
     }
 }

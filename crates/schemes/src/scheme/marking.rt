@@ -5,6 +5,7 @@ ghost use Rattle.std.specs.Option.{option_map};
 ghost use Rattle.codes.specs.Sets.{SetOf, Before, bits, uncleared};
 ghost use Rattle.codes.specs.Steps.{Last, Next, MaskOf, Missed, Skipped};
 
+use crate::scheme::permuting::Listed;
 use lists::Permutations;
 
 // The places of a set, of which there are at most five.
@@ -36,9 +37,7 @@ fn successor(set: Places, t: usize, n: u8) -> Option<Places>
     requires { (t ≤ 5) × (n ≤ 64) }
     ensures { MatchOption result (Last n (take t set)) (λ s. Next n (take t set) (take t s)) }
 {
-    let mut j = t;
-    while j > 0 {
-        j -= 1;
+    for j in (0..t).rev() {
         if can_rise(set[j], t - j, n) {
             return Some(run_from(set, j, t, set[j] + 1));
         }
@@ -52,25 +51,17 @@ fn number_of(set: Places, t: usize, n: u8) -> u64
     ensures { result ≡ bits (take t set) }
 {
     let mut sum = 0u64;
-    let mut j = t;
-    while j > 0 {
-        j -= 1;
+    for j in (0..t).rev() {
         sum |= 1 << set[j];
     }
     sum
 }
 
-// Whether one of the first m masks has no place of the set.
-fn missed(masks: &[u64; 512], m: usize, set: u64) -> bool
-    requires { m ≤ 512 }
-    ensures { MatchBool result ((i : ℕ) × (i < m) × (bit_and (slice_index masks.now i) set ≡ 0)) ((i : ℕ) → i < m → bit_and (slice_index masks.now i) set ≡ 0 → ⊥) }
+// Whether one of the masks has no place of the set.
+fn missed(masks: &[u64], set: u64) -> bool
+    ensures { MatchBool result ((i : ℕ) × (i < length masks.now) × (bit_and (slice_index masks.now i) set ≡ 0)) ((i : ℕ) → i < length masks.now → bit_and (slice_index masks.now i) set ≡ 0 → ⊥) }
 {
-    for i in 0..m {
-        if masks[i] & set == 0 {
-            return true;
-        }
-    }
-    false
+    masks.iter().any(|mask| mask & set == 0)
 }
 
 // The set with another last place.
@@ -83,16 +74,16 @@ fn ending(set: Places, t: usize, last: u8) -> Places
     end
 }
 
-// Whether, for each place from `from` on, one of the first m masks has neither that place nor a place of `head`.
+// Whether, for each place from `from` on, one of the masks has neither that place nor a place of `head`.
 // The places for which none is found yet are the bits of `rest`.
-fn all_missed(masks: &[u64; 512], m: usize, head: u64, from: u8) -> bool
-    requires { (m ≤ 512) × (from < 64) }
-    ensures { result ≡ true → (p : ℕ) → from ≤ p → p < 64 → (i : ℕ) × (i < m) × (bit_and (slice_index masks.now i) head ≡ 0) × ((slice_index masks.now i / 2 ^ p) % 2 ≡ 0) }
+fn all_missed(masks: &[u64], head: u64, from: u8) -> bool
+    requires { from < 64 }
+    ensures { result ≡ true → (p : ℕ) → from ≤ p → p < 64 → (i : ℕ) × (i < length masks.now) × (bit_and (slice_index masks.now i) head ≡ 0) × ((slice_index masks.now i / 2 ^ p) % 2 ≡ 0) }
 {
     let mut rest = u64::MAX << from;
-    for i in 0..m {
-        if masks[i] & head == 0 {
-            rest &= masks[i];
+    for mask in masks {
+        if mask & head == 0 {
+            rest &= mask;
             if rest == 0 {
                 return true;
             }
@@ -102,75 +93,70 @@ fn all_missed(masks: &[u64; 512], m: usize, head: u64, from: u8) -> bool
 }
 
 // The last set that begins as this one does, where some mask misses each set up to it; else the set itself.
-fn skip(masks: &[u64; 512], m: usize, set: Places, t: usize, n: u8) -> Places
-    requires sizes { (m ≤ 512) × (0 < t) × (t ≤ 5) × (n ≤ 64) }
+fn skip(masks: &[u64], set: Places, t: usize, n: u8) -> Places
+    requires sizes { (0 < t) × (t ≤ 5) × (n ≤ 64) }
     requires set { SetOf n t (take t set) }
-    ensures { Skipped masks.now m n t (take t set) (take t result) }
+    ensures { Skipped masks.now (length masks.now) n t (take t set) (take t result) }
 {
     let head = number_of(set, t - 1, n);
-    if all_missed(masks, m, head, set[t - 1]) {
+    if all_missed(masks, head, set[t - 1]) {
         return ending(set, t, n - 1);
     }
     set
 }
 
 // The first set of t places, in dictionary order, that every mask meets, as the sum of the powers of two.
-fn first_met(masks: &[u64; 512], m: usize, t: usize, n: u8) -> Option<u64>
-    requires sizes { (m ≤ 512) × (0 < t) × (t ≤ 5) × (t ≤ n) × (n ≤ 64) }
-    ensures { MatchOption result ((ps : List ℕ) → SetOf n t ps → Missed masks.now m ps) (λ x. (s : List ℕ) × (x ≡ bits s) × SetOf n t s × (Missed masks.now m s → ⊥) × ((ps : List ℕ) → SetOf n t ps → Before ps s → Missed masks.now m ps)) }
+fn first_met(masks: &[u64], t: usize, n: u8) -> Option<u64>
+    requires sizes { (0 < t) × (t ≤ 5) × (t ≤ n) × (n ≤ 64) }
+    ensures { MatchOption result ((ps : List ℕ) → SetOf n t ps → Missed masks.now (length masks.now) ps)
+        (λ x. (s : List ℕ) × (x ≡ bits s) × SetOf n t s × (Missed masks.now (length masks.now) s → ⊥) × ((ps : List ℕ) → SetOf n t ps → Before ps s → Missed masks.now (length masks.now) ps)) }
 {
     let mut set = run_from([0; 5], 0, t, 0);
     loop {
         let number = number_of(set, t, n);
-        if !missed(masks, m, number) {
+        if !missed(masks, number) {
             return Some(number);
         }
-        let Some(next) = successor(skip(masks, m, set, t, n), t, n) else {
-            return None;
-        };
-        set = next;
+        set = successor(skip(masks, set, t, n), t, n)?;
     }
 }
 
-// Bit p is set when permutation i takes p to one of the first k places.
-fn mask_of<L: Permutations>(list: &L, i: u16, k: u8, n: u8) -> u64
-    requires within { i < (L.meaning list.now).count }
-    requires long { n ≡ (L.meaning list.now).places }
-    requires few { n ≤ 64 }
-    ensures { MaskOf n k ((L.meaning list.now).target i) result }
-{
-    let asked = list.targets(i);
-    let mut mask = 0u64;
-    for p in 0..n {
-        let Some(to) = asked.target(p) else {
-            return unreachable();
-        };
-        if to < k {
-            mask |= 1 << p;
+impl<'a, L: Permutations> Listed<'a, L> {
+    // Bit p is set when permutation i takes p to one of the first k places.
+    fn mask(&self, i: u16, k: u8) -> u64
+        requires within { i < (L.meaning self.now.list.now).count }
+        ensures { MaskOf self.now.n k ((L.meaning self.now.list.now).target i) result }
+    {
+        let targets = self.list.targets(i);
+        let mut mask = 0u64;
+        for p in 0..self.n {
+            let Some(to) = targets.target(p) else {
+                return unreachable();
+            };
+            if to < k {
+                mask |= 1 << p;
+            }
         }
+        mask
     }
-    mask
-}
 
-// The masks of all permutations of the list.
-fn masks_of<L: Permutations>(list: &L, k: u8, n: u8) -> [u64; 512]
-    requires long { n ≡ (L.meaning list.now).places }
-    requires few { n ≤ 64 }
-    ensures { (i : ℕ) → i < (L.meaning list.now).count → MaskOf n k ((L.meaning list.now).target i) (slice_index result i) }
-{
-    let mut masks = [0u64; 512];
-    for i in 0..list.count() {
-        masks[i as usize] = mask_of(list, i, k, n);
+    // The masks of all permutations of the list.
+    fn masks(&self, k: u8) -> [u64; 512]
+        ensures { (i : ℕ) → i < (L.meaning self.now.list.now).count → MaskOf self.now.n k ((L.meaning self.now.list.now).target i) (slice_index result i) }
+    {
+        let mut masks = [0u64; 512];
+        for i in 0..self.list.count() {
+            masks[i as usize] = self.mask(i, k);
+        }
+        masks
     }
-    masks
-}
 
-// The first set of t places, in dictionary order, that no permutation clears, as the sum of the powers of two.
-pub(crate) fn first_uncleared<L: Permutations>(list: &L, n: u8, k: u8, t: u8) -> Option<u64>
-    requires long { n ≡ (L.meaning list.now).places }
-    requires sizes { (n ≤ 64) × (0 < t) × (t ≤ 5) × (t ≤ n) }
-    ensures { result ≡ option_map bits (uncleared n k t (L.meaning list.now).count (L.meaning list.now).target) }
-{
-    let masks = masks_of(list, k, n);
-    first_met(&masks, list.count() as usize, t as usize, n)
+    // The first set of t places, in dictionary order, that no permutation clears, as the sum of the powers of two.
+    pub(crate) fn first_uncleared(&self, k: u8, t: u8) -> Option<u64>
+        requires { (0 < t) × (t ≤ 5) × (t ≤ self.now.n) }
+        ensures { result ≡ option_map bits (uncleared self.now.n k t (L.meaning self.now.list.now).count (L.meaning self.now.list.now).target) }
+    {
+        let masks = self.masks(k);
+        first_met(&masks[..self.list.count() as usize], t as usize, self.n)
+    }
 }

@@ -1,200 +1,61 @@
-// Permutations of a list: whether they are such, and whether they keep a code.
-ghost use Rattle.std.specs.Prelude.{◌≡◌, ℕ, ◌+◌, ◌-◌, ◌*◌, ◌<◌, ◌≤◌, length, MatchOption};
-ghost use Rattle.codes.specs.Code.{code, codeword, is_codeword, unit, Permutation, moved};
-ghost use Rattle.codes.specs.Offenders.{bad_place, bad_entry, unkept_unit, unkept as unkept_of};
-ghost use Rattle.schemes.specs.Taken.{Taken};
+// A list of permutations that is lent: its entries, and words taken by them.
+ghost use Rattle.std.specs.Prelude.{◌≡◌, ℕ, ◌<◌, ◌≤◌, length, Some, MatchResult};
 
-use crate::scheme::words::{encode_into, is_codeword};
+use crate::scheme::words::Word;
 use lists::{Permutations, Targets};
-use symbols::Kind;
 
-// What stands in `sources` where no place has come yet.
-const NOWHERE: u8 = 255;
+// A list as it is handed over, for words of n places.
+#[derive(Drop)]
+pub(crate) struct Listed<'a, L: Permutations> {
+    pub(crate) list: &'a L,
+    pub(crate) n: u8,
+    ghost few: { n ≤ 64 },
+    ghost long: { n ≡ (L.meaning list.now).places },
+}
 
-// The first position that shows that permutation i is none.
-fn bad_place<L: Permutations>(list: &L, i: u16, n: u8) -> Option<u8>
-    requires within { i < (L.meaning list.now).count }
-    requires long { n ≡ (L.meaning list.now).places }
-    requires few { n ≤ 64 }
-    ensures { result ≡ bad_place n ((L.meaning list.now).target i) }
-{
-    let asked = list.targets(i);
-    let mut sources = [NOWHERE; 64];
-    for p in 0..n {
-        let Some(to) = asked.target(p) else {
-            return unreachable();
-        };
-        if to >= n {
-            return Some(p);
+// A word that was taken by a permutation, with the permutation's targets.
+#[derive(Clone, Copy)]
+pub(crate) struct Taken {
+    pub(crate) targets: Targets,
+    pub(crate) word: Word,
+}
+
+impl<'a, L: Permutations> Listed<'a, L> {
+    ghost use Rattle.codes.specs.Offenders.{bad_place, bad_entry};
+    ghost use Rattle.schemes.specs.Takes.{Takes};
+
+    // Takes the word v by permutation i: the word and the targets, or the first position that shows that it is no permutation.
+    pub(crate) fn take(&self, i: u16, v: &[u8]) -> Result<Taken, u8>
+        requires within { i < (L.meaning self.now.list.now).count }
+        requires block { length v.now ≡ self.now.n }
+        ensures { MatchResult result (Takes self.now.n ((L.meaning self.now.list.now).target i) v.now) (λ p. bad_place self.now.n ((L.meaning self.now.list.now).target i) ≡ Some p) }
+    {
+        let targets = self.list.targets(i);
+        let mut came = [false; 64];
+        let mut word = [0u8; 64];
+        for p in 0..self.n {
+            let Some(to) = targets.target(p) else {
+                return Err(p);
+            };
+            if to >= self.n || came[to as usize] {
+                return Err(p);
+            }
+            came[to as usize] = true;
+            word[to as usize] = v[p as usize];
         }
-        if sources[to as usize] != NOWHERE {
-            return Some(p);
-        }
-        sources[to as usize] = p;
+        Ok(Taken { targets, word })
     }
-    None
-}
 
-// The first entry that is no permutation, and the first position that shows it.
-pub(crate) fn bad_entry<L: Permutations>(list: &L, n: u8) -> Option<(u16, u8)>
-    requires long { n ≡ (L.meaning list.now).places }
-    requires few { n ≤ 64 }
-    ensures { result ≡ bad_entry n (L.meaning list.now).count (L.meaning list.now).target }
-{
-    for i in 0..list.count() {
-        if let Some(p) = bad_place(list, i, n) {
-            return Some((i, p));
+    // The first entry that is no permutation, and the first position that shows it.
+    pub(crate) fn bad_entry(&self) -> Option<(u16, u8)>
+        ensures { result ≡ bad_entry self.now.n (L.meaning self.now.list.now).count (L.meaning self.now.list.now).target }
+    {
+        let zeros = [0u8; 64];
+        for i in 0..self.list.count() {
+            if let Err(p) = self.take(i, &zeros[..self.n as usize]) {
+                return Some((i, p));
+            }
         }
+        None
     }
-    None
-}
-
-// Takes the word v by permutation i into `word`: the permutation's targets, or none where they are not n different ones below n.
-pub(crate) fn take_by<L: Permutations>(
-    list: &L,
-    i: u16,
-    n: usize,
-    v: &[u8],
-    word: &mut [u8],
-) -> Option<Targets>
-    requires within { i < (L.meaning list.now).count }
-    requires long { n ≡ (L.meaning list.now).places }
-    requires few { n ≤ 64 }
-    requires room { (length v.now ≡ n) × (length word.old ≡ n) }
-    ensures { MatchOption result (Permutation n ((L.meaning list.now).target i) → ⊥) (λ s. Taken n ((L.meaning list.now).target i) s v.now word.new) }
-{
-    let asked = list.targets(i);
-    let mut sources = [NOWHERE; 64];
-    for p in 0..n {
-        let Some(to) = asked.target(p as u8) else {
-            return None;
-        };
-        if to as usize >= n {
-            return None;
-        }
-        if sources[to as usize] != NOWHERE {
-            return None;
-        }
-        sources[to as usize] = p as u8;
-        word[to as usize] = v[p];
-    }
-    Some(asked)
-}
-
-// Writes the unit message j.
-fn write_unit(j: usize, out: &mut [u8])
-    ensures { out.new ≡ unit (length out.old) j }
-{
-    for p in 0..out.len() {
-        out[p] = if p == j { 1 } else { 0 };
-    }
-}
-
-// Whether permutation i takes the codeword of unit message j to a codeword, with room for the message and two words.
-fn keeps_unit_in<K: Kind, L: Permutations>(
-    kind: &K,
-    list: &L,
-    i: u16,
-    n: usize,
-    k: usize,
-    rows: &[u8],
-    j: usize,
-    message: &mut [u8],
-    word: &mut [u8],
-    image: &mut [u8],
-) -> bool
-    requires order { (0 < k) × (k < n) × (n ≤ 64) }
-    requires size { length rows.now ≡ k * (n - k) }
-    requires within { i < (L.meaning list.now).count }
-    requires long { n ≡ (L.meaning list.now).places }
-    requires permutation { Permutation n ((L.meaning list.now).target i) }
-    requires room { (length message.old ≡ k) × (length word.old ≡ n) × (length image.old ≡ n) }
-    ensures { result ≡ is_codeword (code (K.ring kind.now) n k rows.now) (moved n ((L.meaning list.now).target i) (codeword (code (K.ring kind.now) n k rows.now) (unit k j))) }
-{
-    write_unit(j, message);
-    encode_into(kind, n, k, rows, message, word);
-    let Some(_) = take_by(list, i, n, word, image) else {
-        return unreachable();
-    };
-    is_codeword(kind, n, k, rows, image)
-}
-
-// Whether permutation i takes the codeword of unit message j to a codeword.
-fn keeps_unit<K: Kind, L: Permutations>(
-    kind: &K,
-    list: &L,
-    i: u16,
-    n: usize,
-    k: usize,
-    rows: &[u8],
-    j: usize,
-) -> bool
-    requires order { (0 < k) × (k < n) × (n ≤ 64) }
-    requires size { length rows.now ≡ k * (n - k) }
-    requires within { i < (L.meaning list.now).count }
-    requires long { n ≡ (L.meaning list.now).places }
-    requires permutation { Permutation n ((L.meaning list.now).target i) }
-    ensures { result ≡ is_codeword (code (K.ring kind.now) n k rows.now) (moved n ((L.meaning list.now).target i) (codeword (code (K.ring kind.now) n k rows.now) (unit k j))) }
-{
-    let mut message = [0u8; 64];
-    let mut word = [0u8; 64];
-    let mut image = [0u8; 64];
-    keeps_unit_in(
-        kind,
-        list,
-        i,
-        n,
-        k,
-        rows,
-        j,
-        &mut message[0..k],
-        &mut word[0..n],
-        &mut image[0..n],
-    )
-}
-
-// The first unit message whose codeword permutation i takes to no codeword.
-fn unkept_unit<K: Kind, L: Permutations>(
-    kind: &K,
-    list: &L,
-    i: u16,
-    n: usize,
-    k: usize,
-    rows: &[u8],
-) -> Option<u8>
-    requires order { (0 < k) × (k < n) × (n ≤ 64) }
-    requires size { length rows.now ≡ k * (n - k) }
-    requires within { i < (L.meaning list.now).count }
-    requires long { n ≡ (L.meaning list.now).places }
-    requires permutation { Permutation n ((L.meaning list.now).target i) }
-    ensures { result ≡ unkept_unit (code (K.ring kind.now) n k rows.now) ((L.meaning list.now).target i) }
-{
-    for j in 0..k {
-        if !keeps_unit(kind, list, i, n, k, rows, j) {
-            return Some(j as u8);
-        }
-    }
-    None
-}
-
-// The first permutation that takes the codeword of a unit message to no codeword, and the first such message.
-pub(crate) fn unkept<K: Kind, L: Permutations>(
-    kind: &K,
-    list: &L,
-    n: usize,
-    k: usize,
-    rows: &[u8],
-) -> Option<(u16, u8)>
-    requires order { (0 < k) × (k < n) × (n ≤ 64) }
-    requires size { length rows.now ≡ k * (n - k) }
-    requires long { n ≡ (L.meaning list.now).places }
-    requires permutations { (i : ℕ) → i < (L.meaning list.now).count → Permutation n ((L.meaning list.now).target i) }
-    ensures { result ≡ unkept_of (code (K.ring kind.now) n k rows.now) (L.meaning list.now).count (L.meaning list.now).target }
-{
-    for i in 0..list.count() {
-        if let Some(j) = unkept_unit(kind, list, i, n, k, rows) {
-            return Some((i, j));
-        }
-    }
-    None
 }

@@ -5,12 +5,12 @@ ghost use Rattle.promises.specs.Trial.{unfit, fails, verdict, Serves, Exactly};
 ghost use Rattle.promises.specs.Promise.{Promise};
 ghost use Rattle.schemes.specs.Told.{Answers, planned, kept, Tried};
 
+use crate::scheme::attempting::Fitted;
+use crate::scheme::counts::first_excess;
 use crate::scheme::drafting::message_count;
-use crate::scheme::marking::first_uncleared;
-use crate::scheme::permuting::{bad_entry, unkept};
-use crate::scheme::searching::light_message;
-use crate::scheme::words::first_excess;
-use crate::scheme::{Draft, Live, Rejected, Tally};
+use crate::scheme::permuting::Listed;
+use crate::scheme::words::Code;
+use crate::scheme::{Count, Draft, Live, Rejected, Tally};
 use faults::Fault;
 use lists::Permutations;
 use symbols::Kind;
@@ -36,7 +36,8 @@ impl Draft {
         if list.length() != self.n || list.count() == 0 {
             return Err(Fault::ListShape);
         }
-        if let Some((number, position)) = bad_entry(list, self.n) {
+        let listed = Listed { list, n: self.n };
+        if let Some((number, position)) = listed.bad_entry() {
             return Err(Fault::NoPermutation { number, position });
         }
         Ok(())
@@ -52,18 +53,26 @@ impl Draft {
         requires { unfit (planned self.now) (handing (K.ring kind.now) rows.now (L.meaning list.now)) ≡ None }
         ensures { Answers (fails (planned self.now) (handing (K.ring kind.now) rows.now (L.meaning list.now))) result (λ _. Unit {0}) }
     {
-        let n = self.n as usize;
-        let k = self.k as usize;
         let Some(count) = message_count(self.q, self.k) else {
             return unreachable();
         };
-        if let Some(message) = light_message(kind, n, k, rows, self.t, count) {
+        let fitted = Fitted {
+            code: Code {
+                kind,
+                rows,
+                n: self.n as usize,
+                k: self.k as usize,
+            },
+            list: Listed { list, n: self.n },
+            t: self.t,
+        };
+        if let Some(message) = fitted.code.first_light(2 * self.t as usize, count) {
             return Err(Fault::LightCodeword { message });
         }
-        if let Some((number, unit)) = unkept(kind, list, n, k, rows) {
+        if let Some((number, unit)) = fitted.unkept() {
             return Err(Fault::NotKept { number, unit });
         }
-        if let Some(places) = first_uncleared(list, self.n, self.k, self.t) {
+        if let Some(places) = fitted.list.first_uncleared(self.k, self.t) {
             return Err(Fault::Uncleared { places });
         }
         Ok(())
@@ -95,12 +104,8 @@ impl Draft {
             Ok(()) => Ok(Live {
                 draft: self,
                 m: list.count(),
-                tally: Tally {
-                    blocks: 0,
-                    clean: 0,
-                    mended: 0,
-                    lost: 0,
-                    symbols: 0,
+                count: Count {
+                    tally: Tally::default(),
                 },
             }),
             Err(fault) => Err(Rejected { draft: self, fault }),

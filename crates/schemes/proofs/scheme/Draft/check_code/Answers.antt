@@ -9,12 +9,12 @@ unkept-requires g c =
     let d = c.args.self.now in
     let D : Plan = plan d.n d.k d.t d.q in
     let h : Handed = handing (g.K.Kind.ring c.args.kind.now) c.args.rows.now (g.L.Permutations.meaning c.args.list.now) in
-    record { order = (omega arith, omega arith, omega arith); size = fit_size D h c.requires; long = sym (fit_long D h c.requires); permutations = fit_permutes D h c.requires }
+    record { permutations = fit_permutes D h c.requires }
 
 pub first_uncleared-requires : goal.first_uncleared-requires
 first_uncleared-requires g c =
     let d = c.args.self.now in
     let D : Plan = plan d.n d.k d.t d.q in
     let h : Handed = handing (g.K.Kind.ring c.args.kind.now) c.args.rows.now (g.L.Permutations.meaning c.args.list.now) in
-    let none = ap (option_map _) (sym c.in_default-light_message.ensures) in
-    record { long = sym (fit_long D h c.requires); sizes = (omega arith, omega arith, omega arith, enough_places D h c.requires (g.met.K.Kind.rules c.args.kind.now) (omega arith) (omega arith) none) }
+    let none = ap (option_map _) (sym c.in_default-first_light.ensures) in
+    (omega arith, omega arith, enough_places D h c.requires (g.met.K.Kind.rules c.args.kind.now) (omega arith) (omega arith) none)

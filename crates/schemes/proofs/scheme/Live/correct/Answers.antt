@@ -28,7 +28,7 @@ correct_into-requires g c =
     let o = c.in_ok-check.ensures.0 in
     let (a, b, m, e, f) = measured S h S.n c.args.block.now c.args.out.now o in
     let (_, (long, below)) = accepted S h S.n c.args.block.now c.args.out.now o in
-    record { order = (omega arith, omega arith, omega arith); size = e; long = sym b; block = (long, λ p l. omega (arith, a, below p l)); room = f }
+    record { block = (long, λ p l. omega (arith, a, below p l)); room = f }
 
 pub returns-in_default : goal.returns-in_default
 returns-in_default g c =
@@ -38,7 +38,7 @@ returns-in_default g c =
     let (a, b, m, e, f) = measured S h S.n c.args.block.now c.args.out.now o in
     let (none, same) = c.in_default.ensures in
     record {
-      does = step_loses _ _ _ _ o (omega arith) (record { none_succeeds = λ i l. none i (omega (arith, m)); answers = refl; word = same; tally = c.with_lost-self.ensures.tally });
+      does = step_loses _ _ _ _ o (omega arith) (record { none_succeeds = λ i l. none i (omega (arith, m)); answers = refl; word = same; tally = c.add_lost.ensures });
       keeps = refl;
     }
 
@@ -51,6 +51,6 @@ returns g c =
     let (within, first, word, far) = c.in-Some.ensures in
     record {
       does = step_finds _ _ _ _ c.in-Some.i o (omega arith)
-          (record { within = omega (arith, m); first = first; word = word; answers = ap (λ (x : ℕ). Ok (x, c.in-Some.i)) far; tally = c.with_corrected-self.ensures.tally ∙ ap (λ d. found d (counts c.args.self.now.tally)) far });
+          (record { within = omega (arith, m); first = first; word = word; answers = ap (λ (x : ℕ). Ok (x, c.in-Some.i)) far; tally = c.add_corrected.ensures ∙ ap (λ d. found d (counts c.args.self.now.count.tally)) far });
       keeps = refl;
     }

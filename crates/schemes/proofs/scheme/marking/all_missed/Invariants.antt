@@ -1,5 +1,5 @@
 use Rattle.schemes.proofs.Opening.{Open}
 use Rattle.schemes.proofs.scheme.marking.all_missed.Given as goal
 
-abbrev pub invariant-loop-i : goal.invariant-loop-i
-invariant-loop-i l = Open l.masks l.head l.from l.rest l.i
+abbrev pub invariant-loop-mask : goal.invariant-loop-mask
+invariant-loop-mask l = Open l.masks l.head l.from l.rest l.mask-index

@@ -4,6 +4,3 @@ use Rattle.schemes.proofs.scheme.marking.successor.Given as goal
 
 abbrev pub invariant-loop-j : goal.invariant-loop-j
 invariant-loop-j l = (l.j ≤ l.t) × Last l.n (drop l.j (take l.t l.set))
-
-abbrev pub decreases-loop-j : goal.decreases-loop-j
-decreases-loop-j l = l.j

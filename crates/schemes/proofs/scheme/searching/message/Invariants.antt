@@ -8,6 +8,3 @@ invariant-loop-i l =
     × (l.i ≤ l.k)
     × (l.rest ≡ l.x / l.q ^ (l.k - l.i))
     × (drop l.i (take l.k l.symbols) ≡ message l.q (l.k - l.i) l.x)
-
-abbrev pub decreases-loop-i : goal.decreases-loop-i
-decreases-loop-i l = l.i

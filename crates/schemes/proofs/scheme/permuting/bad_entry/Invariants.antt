@@ -1,6 +1,0 @@
-use Rattle.std.proofs.Common.{◌≡◌, ℕ, ◌<◌, None}
-use Rattle.codes.specs.Offenders.{bad_place}
-use Rattle.schemes.proofs.scheme.permuting.bad_entry.Given as goal
-
-abbrev pub invariant-loop-i : goal.invariant-loop-i
-invariant-loop-i g l = (r : ℕ) → r < l.i → bad_place l.n ((g.L.Permutations.meaning l.list).target r) ≡ None
