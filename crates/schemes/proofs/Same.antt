@@ -1,7 +1,7 @@
 -- Words that are compared with codewords.
-use Rattle.std.proofs.Common.{◌≡◌, ℕ, ◌≤◌, Bool, true, false, eqb, List, length, get_or, take, Decides, sym, refl, ap, ◌∙◌, arith}
+use Rattle.std.proofs.Common.{◌≡◌, ℕ, ◌≤◌, Bool, true, false, List, length, get_or, take, Decides, sym, refl, ap, arith}
 use Rattle.std.proofs.lemmas.Bool.{false≢true, eq-eqb, ne_eqb}
-use Rattle.codes.specs.Code.{Code, codeword, distance, is_codeword}
+use Rattle.codes.specs.Code.{Code, codeword, is_codeword}
 use Rattle.codes.proofs.Places.{distance-zero, zero_same}
 use Rattle.codes.proofs.Words.{length-codeword}
 use Rattle.std.proofs.lemmas.List.{length-take-le}

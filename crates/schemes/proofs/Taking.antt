@@ -1,11 +1,10 @@
 -- Words that are taken by a permutation, and the positions that show that there is none.
-use Rattle.std.proofs.Common.{◌≡◌, ℕ, suc, ◌+◌, ◌<◌, ◌≤◌, Bool, true, false, eqb, ◌≢◌, List, length, get_or, take, set, replicate, is_some, Some, sym, refl, ap, ◌∙◌, ⊎_elim, arith, length-set, below_more}
+use Rattle.std.proofs.Common.{◌≡◌, ℕ, ◌+◌, ◌<◌, ◌≤◌, Bool, true, false, eqb, ◌≢◌, List, length, get_or, take, set, replicate, is_some, Some, sym, refl, ap, ◌∙◌, ⊎_elim, arith, length-set, below_more}
 use lib.ListN.{get_or-replicate}
 use Rattle.std.proofs.lemmas.List.{get_or-set_same, get_or-set_other, get_or-take, length-take-le}
 use Rattle.std.proofs.lemmas.Bool.{true≢false, cases_eq, eq-eqb, ne_eqb}
 use Rattle.lists.specs.Told.{told}
-use Rattle.codes.specs.Code.{Permutation, moved}
-use Rattle.codes.specs.Search.{least}
+use Rattle.codes.specs.Code.{Permutation}
 use Rattle.codes.specs.Offenders.{clashes, bad_place}
 use Rattle.codes.proofs.Places.{moved_only}
 use Rattle.codes.proofs.Found.{least-some, least-none}

@@ -1,7 +1,7 @@
 use Rattle.std.proofs.Common.{sym, ap, arith}
 use Rattle.std.specs.Option.{option_map}
 use Rattle.promises.specs.Scheme.{Plan, plan, Handed, handing}
-use Rattle.promises.proofs.Trying.{fit_size, fit_long, fit_permutes, enough_places}
+use Rattle.promises.proofs.Trying.{fit_permutes, enough_places}
 use Rattle.schemes.proofs.scheme.Draft.check_code.Goals as goal
 
 pub unkept-requires : goal.unkept-requires

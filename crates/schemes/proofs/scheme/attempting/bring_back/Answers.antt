@@ -1,5 +1,4 @@
 use Rattle.std.proofs.Common.{◌≡◌, ℕ, ◌<◌, ◌≢◌, length, get_or, set, Some, None, Option, sym, ap, ◌∙◌, subst, arith, length-set, below_more}
-use Rattle.std.proofs.lemmas.Bool.Decides.{nat_tests}
 use Rattle.std.proofs.lemmas.List.{get_or-set_same, get_or-set_other}
 use Rattle.lists.specs.Told.{told}
 use Rattle.schemes.proofs.scheme.attempting.bring_back.Goals as goal

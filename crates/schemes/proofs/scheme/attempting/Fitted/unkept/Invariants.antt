@@ -1,5 +1,4 @@
 use Rattle.std.proofs.Common.{◌≡◌, ℕ, ◌<◌, None}
-use Rattle.codes.specs.Code.{code}
 use Rattle.codes.specs.Offenders.{unkept_unit}
 use Rattle.schemes.specs.Lent.{code_lent}
 use Rattle.schemes.proofs.scheme.attempting.Fitted.unkept.Given as goal

@@ -1,4 +1,4 @@
-use Rattle.std.proofs.Common.{◌≡◌, List, length, take, not, sym, ap, ◌∙◌, subst, arith, below_more}
+use Rattle.std.proofs.Common.{◌≡◌, take, not, sym, ap, ◌∙◌, subst, arith, below_more}
 use Rattle.codes.specs.Code.{Code, codeword, unit, moved, is_codeword, Permutation}
 use Rattle.codes.proofs.Found.{least-some, least-none, none-some}
 use Rattle.codes.proofs.Offending.{clash_none}

@@ -1,4 +1,4 @@
-use Rattle.std.proofs.Common.{◌+◌, ◌-◌, List, get_or, sym, refl, subst, arith}
+use Rattle.std.proofs.Common.{◌+◌, List, sym, subst, arith}
 use Rattle.codes.specs.Code.{Code}
 use Rattle.schemes.specs.Lent.{code_lent}
 use Rattle.schemes.proofs.Summing.{Summed, summed_none, summed_more, summed_same}
