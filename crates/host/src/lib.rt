@@ -8,7 +8,7 @@ ghost use Rattle.faults.specs.Refusal.{refusal};
 ghost use Rattle.host.specs.Hosted.{Stops, Mends, Says, HostAnswers};
 
 use faults::Fault;
-use opening::{go_live, kind_of, list_of};
+use opening::Opened;
 
 // What the number of a refusal is added to in an answer.
 const REFUSED: u8 = 100;
@@ -17,11 +17,8 @@ const REFUSED: u8 = 100;
 fn correct_once(file: &[u8], block: &[u8], out: &mut [u8]) -> Result<u8, Fault>
     ensures { MatchResult result (λ d. Mends file.now block.now out.old d out.new) (λ e. Stops file.now block.now out.old (refusal e) out.new) }
 {
-    let scheme = files::read(file)?;
-    let kind = kind_of(scheme.family, scheme.base)?;
-    let list = list_of(scheme.n, scheme.count, scheme.form)?;
-    let mut live = go_live(scheme.n, scheme.k, scheme.t, &kind, &list, scheme.rows)?;
-    let (distance, _) = live.correct(&kind, &list, scheme.rows, block, out)?;
+    let mut opened = Opened::new(file)?;
+    let (distance, _) = opened.correct(block, out)?;
     Ok(distance)
 }
 

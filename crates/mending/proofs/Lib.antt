@@ -1,2 +1,3 @@
 mod Sessions
 mod Opened
+mod Cutting

@@ -7,12 +7,12 @@ ghost use Rattle.std.specs.Prelude.{◌≡◌, ℕ, ◌+◌, ◌-◌, ◌*◌, �
 ghost use Rattle.mending.specs.Input.{file_size, scheme_file, block_bytes};
 ghost use Rattle.mending.specs.Printed.{Printed};
 
-use files::read;
 use lines::refused;
-use opening::{go_live, kind_of, list_of};
+use opening::Opened;
 use session::session;
 use std::alloc::{AllocError, Global};
 
+mod fates;
 mod lines;
 mod session;
 
@@ -21,7 +21,7 @@ fn file_size(input: &[u8]) -> usize
     requires { 2 ≤ length input.now }
     ensures { (result ≡ file_size input.now) × (result < 65536) }
 {
-    input[0] as usize * 256 + input[1] as usize
+    u16::from_be_bytes([input[0], input[1]]) as usize
 }
 
 // The scheme file of an input: two bytes give its length, the high one first. It is shorter if the input ends, and empty if the length is missing.
@@ -29,13 +29,10 @@ pub fn scheme_file(input: &[u8]) -> &[u8]
     ensures { result.now ≡ scheme_file input.now }
 {
     if input.len() < 2 {
-        return &input[0..0];
+        return &[];
     }
-    let size = file_size(input);
-    if size > input.len() - 2 {
-        return &input[2..];
-    }
-    &input[2..2 + size]
+    let rest = &input[2..];
+    &rest[..file_size(input).min(rest.len())]
 }
 
 // The bytes after the scheme file.
@@ -43,42 +40,17 @@ pub fn block_bytes(input: &[u8]) -> &[u8]
     ensures { result.now ≡ block_bytes input.now }
 {
     if input.len() < 2 {
-        return &input[0..0];
+        return &[];
     }
-    let start = 2 + file_size(input);
-    if start > input.len() {
-        return &input[0..0];
-    }
-    &input[start..]
+    &input[(2 + file_size(input)).min(input.len())..]
 }
 
 // The text that mend prints for an input.
 pub fn answer(heap: Global, input: &[u8]) -> Result<Vec<u8>, AllocError>
     ensures { IfOk result (λ text. Printed input.now text.items) }
 {
-    let scheme = match read(scheme_file(input)) {
-        Ok(scheme) => scheme,
-        Err(fault) => return refused(heap, fault),
-    };
-    let kind = match kind_of(scheme.family, scheme.base) {
-        Ok(kind) => kind,
-        Err(fault) => return refused(heap, fault),
-    };
-    let list = match list_of(scheme.n, scheme.count, scheme.form) {
-        Ok(list) => list,
-        Err(fault) => return refused(heap, fault),
-    };
-    let live = match go_live(scheme.n, scheme.k, scheme.t, &kind, &list, scheme.rows) {
-        Ok(live) => live,
-        Err(fault) => return refused(heap, fault),
-    };
-    session(
-        heap,
-        &kind,
-        &list,
-        scheme.rows,
-        scheme.n as usize,
-        live,
-        block_bytes(input),
-    )
+    match Opened::new(scheme_file(input)) {
+        Ok(opened) => session(heap, opened, block_bytes(input)),
+        Err(fault) => refused(heap, fault),
+    }
 }

@@ -21,6 +21,9 @@ use symbols::{Kind, Residues, TwoPower};
 
 pub mod kinds;
 pub mod lists_of_files;
+pub mod opened;
+
+pub use opened::Opened;
 
 // The kind that a file names.
 pub fn kind_of(family: Family, base: u8) -> Result<FileKind, Fault>

@@ -73,6 +73,13 @@ impl Live {
         Ok(())
     }
 
+    // The number n of places of a block.
+    pub fn places(&self) -> u8
+        ensures { result ≡ (kept self.now).n }
+    {
+        self.draft.n
+    }
+
     // Writes the codeword of a message.
     pub fn encode<K: Kind, L: Permutations>(
         &self,

@@ -10,10 +10,10 @@ more before text text' symbols p x h e d f =
     ∙ ap (λ w. before ++ w)
     (ap (λ y. map digit (take p symbols) ++ y ∷ []) d ∙ sym (map-append digit (take p symbols) (get_or symbols p 0 ∷ [])) ∙ ap (map digit) (sym (take_more symbols p 0 h)))
 
-pub loop-p-preserved : goal.loop-p-preserved
-loop-p-preserved c =
-    more _ _ _ c.args.symbols.now c.loop-p.p c.digit.result (omega arith) c.loop-p.invariant c.digit.ensures c.in_ok-push.ensures.items
+pub loop-symbol-preserved : goal.loop-symbol-preserved
+loop-symbol-preserved c =
+    more _ _ _ c.args.symbols.now c.loop-symbol.symbol-index c.digit.result (omega arith) c.loop-symbol.invariant c.digit.ensures c.in_ok-push.ensures.items
 
 pub returns : goal.returns
 returns c =
-    c.loop-p.invariant ∙ ap (λ (w : List ℕ). vec_items c.args.text.now ++ map digit w) (take_all c.loop-p.p c.args.symbols.now (omega arith))
+    c.loop-symbol.invariant ∙ ap (λ (w : List ℕ). vec_items c.args.text.now ++ map digit w) (take_all c.loop-symbol.symbol-index c.args.symbols.now (omega arith))

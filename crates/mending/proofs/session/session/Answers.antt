@@ -1,37 +1,73 @@
-use Rattle.std.proofs.Common.{◌≡◌, ℕ, ◌+◌, List, ◌∷◌, ◌++◌, length, vec_items, ap, ◌∙◌, subst, arith}
-use Rattle.promises.specs.Scheme.{Scheme, Handed, handing, Counts}
+use Rattle.std.proofs.Common.{◌≡◌, ℕ, ◌+◌, ◌*◌, ◌<◌, List, [], ◌∷◌, ◌++◌, min, length, drop, vec_items, sym, refl, ap, ◌∙◌, subst, arith, length-drop}
+use Rattle.promises.specs.Scheme.{Scheme, Handed, Counts}
 use Rattle.promises.specs.Calls.{correct}
 use Rattle.schemes.specs.Told.{kept, tallied}
+use Rattle.opening.specs.Opened.{handed_held}
 use Rattle.mending.specs.Input.{piece, pieces}
 use Rattle.mending.specs.Lines.{total}
 use Rattle.mending.specs.Printed.{Added, Session}
-use Rattle.mending.proofs.Sessions.{piece_start, session_more, reported}
+use Rattle.mending.proofs.Cutting.{piece_within, pieces_past, piece_is, rest_is}
+use Rattle.mending.proofs.Sessions.{session_more, reported}
 use Rattle.mending.proofs.session.session.Goals as goal
 
-added_as : (S S' : Scheme) (h : Handed) (number : ℕ) (v v' : List ℕ) (c after : Counts) (before text : List ℕ) → S ≡ S' → v ≡ v' → Added S h number v c after before text → Added S' h number v' c after before text
-added_as S S' h number v v' c after before text e f a =
-    subst (λ (T : Scheme). Added T h number v' c after before text) e (subst (λ (u : List ℕ). Added S h number u c after before text) f a)
+added_as : (S S' : Scheme) (h h' : Handed) (number number' : ℕ) (v v' : List ℕ) (c after : Counts) (before text : List ℕ) → S ≡ S' → h ≡ h' → number ≡ number' → v ≡ v'
+    → Added S h number v c after before text → Added S' h' number' v' c after before text
+added_as S S' h h' number number' v v' c after before text e f g k a =
+    subst (λ (T : Scheme). Added T h' number' v' c after before text) e
+    (subst (λ (j : Handed). Added S j number' v' c after before text) f
+    (subst (λ (i : ℕ). Added S h i v' c after before text) g
+    (subst (λ (u : List ℕ). Added S h number u c after before text) k a)))
 
-pub piece-requires : goal.piece-requires
-piece-requires g c = record { there = piece_start c.loop-i.i c.args.n (length c.args.bytes.now) (omega arith) }
+pub loop-i-init : goal.loop-i-init
+loop-i-init c =
+    let S : Scheme = kept c.args.opened.live in
+    let h : Handed = handed_held c.args.opened in
+    let bytes = c.args.bytes.now in
+    let n = c.places-n.result in
+    let it = c.into_iter-i-iterator.result in
+    let start : it.count ≡ 0 = cc in
+    let whole : it.iter.rest.now ≡ bytes = cc in (
+      cc,
+      whole ∙ sym (ap (λ (k : ℕ). drop (k * n) bytes) start ∙ ap (λ (m : ℕ). drop m bytes) (let z : 0 * n ≡ 0 = omega arith in z)),
+      omega arith,
+      refl,
+      refl,
+      ([], subst (λ (i : ℕ). Session S h bytes i [] (tallied c.args.opened.live) (vec_items c.new-text.result)) (sym start) (refl, c.requires.starts, c.new-text.ensures.items)),
+    )
 
 pub loop-i-preserved : goal.loop-i-preserved
-loop-i-preserved g c =
-    let S : Scheme = kept c.args.live in
-    let h : Handed = handing (g.K.Kind.ring c.args.kind.now) c.args.rows.now (g.L.Permutations.meaning c.args.list.now) in
+loop-i-preserved c =
+    let S : Scheme = kept c.args.opened.live in
+    let h : Handed = handed_held c.args.opened in
     let bytes = c.args.bytes.now in
-    let (same, (calls, s)) = c.loop-i.invariant in
-    let block = c.piece.ensures ∙ ap (λ (m : ℕ). piece m bytes c.loop-i.i) c.requires.size.0 in
-    let added = added_as _ S h (c.loop-i.i + 1) _ (piece S.n bytes c.loop-i.i) _ _ _ _ same block c.in_ok-add.ensures.added in
-    (c.in_ok-add.ensures.keeps ∙ same, (correct added.call ∷ calls, session_more S h bytes c.loop-i.i calls _ _ _ _ s added))
+    let n = c.places-n.result in
+    let it = c.loop-i.i-iterator in
+    let (size, left, few, same, handed, (calls, s)) = c.loop-i.invariant in
+    let ((sized, (cut, long, more)), number, counts, _) = c.in-Some.ensures.steps in
+    let some : 0 < n = omega arith in
+    let length_block : length c.in-Some.block.now ≡ min n (length it.iter.rest.now) = long ∙ ap (λ (m : ℕ). min m (length it.iter.rest.now)) size in
+    let within = piece_within n bytes some it.count (omega (arith, ap length left, length-drop (it.count * n) bytes)) in
+    let block = piece_is n bytes some it.count _ _ _ left cut length_block ∙ ap (λ (m : ℕ). piece m bytes it.count) c.places-n.ensures in
+    let added = added_as _ S _ h _ (it.count + 1) _ (piece S.n bytes it.count) _ _ _ _ same handed (ap (λ (m : ℕ). m + 1) number) block c.in_ok-add.ensures.added in (
+      sized ∙ size,
+      rest_is n bytes some it.count _ _ _ left cut length_block ∙ ap (λ (m : ℕ). drop (m * n) bytes) (sym counts),
+      omega arith,
+      c.in_ok-add.ensures.keeps.0 ∙ same,
+      c.in_ok-add.ensures.keeps.1 ∙ handed,
+      (correct added.call ∷ calls, subst (λ (i : ℕ). Session S h bytes i (correct added.call ∷ calls) (tallied c.add.new.opened.live) (vec_items c.add.new.text)) (sym counts) (session_more S h bytes it.count calls _ _ _ _ s added)),
+    )
 
 pub returns : goal.returns
-returns g c =
-    let S : Scheme = kept c.args.live in
-    let h : Handed = handing (g.K.Kind.ring c.args.kind.now) c.args.rows.now (g.L.Permutations.meaning c.args.list.now) in
+returns c =
+    let S : Scheme = kept c.args.opened.live in
+    let h : Handed = handed_held c.args.opened in
     let bytes = c.args.bytes.now in
-    let (same, (calls, s)) = c.loop-i.invariant in
-    let end : c.loop-i.i ≡ pieces S.n bytes = (let z : c.loop-i.i ≡ c.pieces-i-end.result = omega arith in z) ∙ c.pieces-i-end.ensures ∙ ap (λ (m : ℕ). pieces m bytes) c.requires.size.0 in
-    reported S h bytes c.requires.promise calls (tallied c.loop-i.scheme) (vec_items c.loop-i.text) _
-    (subst (λ (i : ℕ). Session S h bytes i calls (tallied c.loop-i.scheme) (vec_items c.loop-i.text)) end s)
-    (c.in_ok-put_total.ensures ∙ ap (λ (x : Counts). vec_items c.loop-i.text ++ total x) c.close-tally.ensures.does.0)
+    let n = c.places-n.result in
+    let it = c.loop-i.i-iterator in
+    let (size, left, few, same, handed, (calls, s)) = c.loop-i.invariant in
+    let ((_, (none, _)), _) = c.in-None.ensures.steps in
+    let some : 0 < n = omega arith in
+    let end : it.count ≡ pieces S.n bytes = pieces_past n bytes some it.count (omega (arith, ap length left, length-drop (it.count * n) bytes)) few ∙ ap (λ (m : ℕ). pieces m bytes) c.places-n.ensures in
+    reported S h bytes c.requires.promise calls (tallied c.loop-i.opened.live) (vec_items c.loop-i.text) _
+    (subst (λ (i : ℕ). Session S h bytes i calls (tallied c.loop-i.opened.live) (vec_items c.loop-i.text)) end s)
+    (c.in_ok-put_total.ensures ∙ ap (λ (x : Counts). vec_items c.loop-i.text ++ total x) c.close.ensures.does.0)
