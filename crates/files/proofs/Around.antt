@@ -41,12 +41,13 @@ accepted file a =
 pub count_back : (c : ℕ) → c / 256 * 256 + c % 256 ≡ c
 count_back c = omega arith
 
-pub fields_back : (x : Contents) → fields_at (bytes_of x) ≡ fields_of x
-fields_back x =
+-- the fields of a header, whatever follows it
+pub fields_back : (f : Fields) (rest : List ℕ) → fields_at (head_bytes f ++ rest) ≡ f
+fields_back f rest =
     let F : ℕ → Fields =
-    λ c. record { family = x.family; base = x.base; n = x.n; k = x.k; t = x.t; form = form_number x.list; count = c }
+    λ c. record { family = f.family; base = f.base; n = f.n; k = f.k; t = f.t; form = f.form; count = c }
     in
-    ap F (count_back x.count)
+    ap F (count_back f.count)
 
 pub middle : (xs ys : List ℕ) (i r : ℕ) → length xs ≡ r → take ((i + r) - i) (xs ++ ys) ≡ xs
 middle xs ys i r h = take_at xs ys ((i + r) - i) (omega arith)
@@ -91,7 +92,7 @@ pub written_is_read : (x : Contents) → contents_refusal x ≡ None → (file_r
 written_is_read x h =
     let w = field_none (wrong_field (fields_of x)) (refuse_unless (parts_fit x) 22 None) h in
     let p = (unless_none (parts_fit x) 22 None w.1).0 in
-    let e = fields_back x in (
+    let e = fields_back (fields_of x) (value_bytes x.list ++ (x.rows ++ table_bytes x.list)) in (
       accepted (bytes_of x)
           (record {
             long = omega (arith, length_bytes x);
@@ -229,6 +230,22 @@ marks a b c h =
     let q = and_parts (eqb b 0x44) (eqb c 0x53) p.1 in
     (eqb-true a 0x50 p.0, eqb-true b 0x44 q.0, eqb-true c 0x53 q.1)
 
+-- an accepted file begins with the header of its fields
+head_stands : (file : List ℕ) → Bytes file → Accepted file → head_bytes (fields_at file) ++ drop 13 file ≡ file
+head_stands file b a =
+    let m = marks (get_or file 0 0) (get_or file 1 0) (get_or file 2 0) a.mark in
+    let m0 = m.0 in
+    let m1 = m.1 in
+    let m2 = m.2 in
+    let v : get_or file 3 0 * 256 + get_or file 4 0 ≡ 1 = a.version in
+    let v0 : get_or file 3 0 ≡ 0 = omega arith in
+    let v1 : get_or file 4 0 ≡ 1 = omega arith in
+    let low = b 12 in
+    let c0 : (get_or file 11 0 * 256 + get_or file 12 0) / 256 ≡ get_or file 11 0 = omega arith in
+    let c1 : (get_or file 11 0 * 256 + get_or file 12 0) % 256 ≡ get_or file 12 0 = omega arith in
+    let o = opened file a.long in
+    cc
+
 pub read_is_written : (file : List ℕ) → Bytes file → file_refusal file ≡ None
     → (contents_refusal (contents_of file) ≡ None) × (bytes_of (contents_of file) ≡ file)
 read_is_written file b h =
@@ -250,19 +267,8 @@ read_is_written file b h =
     (eq-eqb (length (table_bytes x.list)) (table_size (fields_of x)) (cut.in_table ∙ ap table_size (sym same)))
     in
     let within : wrong_field (fields_of x) ≡ None = ap wrong_field same ∙ a.within in
-    let m = marks (get_or file 0 0) (get_or file 1 0) (get_or file 2 0) a.mark in
-    let m0 = m.0 in
-    let m1 = m.1 in
-    let m2 = m.2 in
-    let v : get_or file 3 0 * 256 + get_or file 4 0 ≡ 1 = a.version in
-    let v0 : get_or file 3 0 ≡ 0 = omega arith in
-    let v1 : get_or file 4 0 ≡ 1 = omega arith in
-    let low = b 12 in
-    let c0 : (get_or file 11 0 * 256 + get_or file 12 0) / 256 ≡ get_or file 11 0 = omega arith in
-    let c1 : (get_or file 11 0 * 256 + get_or file 12 0) % 256 ≡ get_or file 12 0 = omega arith in
-    let tail = cut.tail in
-    let o = opened file a.long in
-    (simp (within, fit), cc)
+    let head = head_stands file b a in
+    (simp (within, fit), ap (λ f. head_bytes f ++ (value_bytes x.list ++ (x.rows ++ table_bytes x.list))) same ∙ ap (λ z. head_bytes f ++ z) cut.tail ∙ head)
 
 -- the same for an output
 pub written : (x : Contents) (file : List ℕ) → wrong_field (fields_of x) ≡ None → parts_fit x ≡ true → file ≡ bytes_of x
@@ -276,7 +282,16 @@ written x file w p e =
 pub whole_file : (file : List ℕ) → head_refusal file ≡ None → length file ≡ file_length (fields_at file) → file_refusal file ≡ None
 whole_file file h l = let w = eq-eqb (length file) (file_length (fields_at file)) l in simp (h, w)
 
--- contents that an accepted file has make the file again
+-- parts that an accepted file is cut into are what it says
 pub parts_are : (file : List ℕ) (x : Contents) → Bytes file → head_refusal file ≡ None
-    → length file ≡ file_length (fields_at file) → x ≡ contents_of file → (x ≡ contents_of file) × (bytes_of x ≡ file)
-parts_are file x b h l e = (e, ap bytes_of e ∙ (read_is_written file b (whole_file file h l)).1)
+    → length file ≡ file_length (fields_at file) → fields_of x ≡ fields_at file
+    → value_bytes x.list ++ (x.rows ++ table_bytes x.list) ≡ drop 13 file → parts_fit x ≡ true
+    → (x ≡ contents_of file) × (bytes_of x ≡ file)
+parts_are file x b h l same tail fit =
+    let head = head_stands file b (accepted_by file (whole_file file h l)) in
+    let bytes : bytes_of x ≡ file =
+    ap (λ f. head_bytes f ++ (value_bytes x.list ++ (x.rows ++ table_bytes x.list))) same
+    ∙ ap (λ z. head_bytes (fields_at file) ++ z) tail
+    ∙ head
+    in
+    (sym (contents_back x fit) ∙ ap contents_of bytes, bytes)
