@@ -1,5 +1,5 @@
 -- The way from contents to a file and back, and from a file to contents and back.
-use Rattle.std.proofs.Common.{◌≡◌, ℕ, ◌+◌, ◌-◌, ◌*◌, ◌/◌, ◌%◌, ◌≤◌, Bool, true, false, cond, ◌&&◌, eqb, leb, ◌⊎◌, List, [], ◌∷◌, ◌++◌, length, get_or, take, drop, Some, None, Option, sym, refl, ap, ◌∙◌, subst, inl, inr, arith}
+use Rattle.std.proofs.Common.{◌≡◌, ℕ, ◌+◌, ◌-◌, ◌*◌, ◌/◌, ◌%◌, ◌<◌, ◌≤◌, Bool, true, false, cond, ◌&&◌, eqb, leb, ◌⊎◌, List, [], ◌∷◌, ◌++◌, length, get_or, take, drop, Some, None, Option, sym, refl, ap, ◌∙◌, subst, inl, inr, arith}
 use Rattle.std.specs.List.{between}
 use Rattle.std.proofs.lemmas.List.{append-nil, length-drop, take-append-drop, take_at, take_all, drop_at, drop-drop, drop_more, take_rest}
 use Rattle.std.proofs.lemmas.List.Edits.{length-between}
@@ -231,8 +231,8 @@ marks a b c h =
     (eqb-true a 0x50 p.0, eqb-true b 0x44 q.0, eqb-true c 0x53 q.1)
 
 -- an accepted file begins with the header of its fields
-head_stands : (file : List ℕ) → Bytes file → Accepted file → head_bytes (fields_at file) ++ drop 13 file ≡ file
-head_stands file b a =
+head_stands : (file : List ℕ) → get_or file 12 0 < 256 → Accepted file → head_bytes (fields_at file) ++ drop 13 file ≡ file
+head_stands file low a =
     let m = marks (get_or file 0 0) (get_or file 1 0) (get_or file 2 0) a.mark in
     let m0 = m.0 in
     let m1 = m.1 in
@@ -240,7 +240,6 @@ head_stands file b a =
     let v : get_or file 3 0 * 256 + get_or file 4 0 ≡ 1 = a.version in
     let v0 : get_or file 3 0 ≡ 0 = omega arith in
     let v1 : get_or file 4 0 ≡ 1 = omega arith in
-    let low = b 12 in
     let c0 : (get_or file 11 0 * 256 + get_or file 12 0) / 256 ≡ get_or file 11 0 = omega arith in
     let c1 : (get_or file 11 0 * 256 + get_or file 12 0) % 256 ≡ get_or file 12 0 = omega arith in
     let o = opened file a.long in
@@ -267,7 +266,7 @@ read_is_written file b h =
     (eq-eqb (length (table_bytes x.list)) (table_size (fields_of x)) (cut.in_table ∙ ap table_size (sym same)))
     in
     let within : wrong_field (fields_of x) ≡ None = ap wrong_field same ∙ a.within in
-    let head = head_stands file b a in
+    let head = head_stands file (b 12) a in
     (simp (within, fit), ap (λ f. head_bytes f ++ (value_bytes x.list ++ (x.rows ++ table_bytes x.list))) same ∙ ap (λ z. head_bytes f ++ z) cut.tail ∙ head)
 
 -- the same for an output
@@ -278,20 +277,15 @@ written x file w p e =
     let r = written_is_read x h in
     record { bytes = e; accepted = ap file_refusal e ∙ r.0; again = ap contents_of e ∙ r.1 }
 
--- a header and a length that stand make an accepted file
-pub whole_file : (file : List ℕ) → head_refusal file ≡ None → length file ≡ file_length (fields_at file) → file_refusal file ≡ None
-whole_file file h l = let w = eq-eqb (length file) (file_length (fields_at file)) l in simp (h, w)
-
 -- parts that an accepted file is cut into are what it says
-pub parts_are : (file : List ℕ) (x : Contents) → Bytes file → head_refusal file ≡ None
-    → length file ≡ file_length (fields_at file) → fields_of x ≡ fields_at file
+pub parts_are : (file : List ℕ) (x : Contents) → get_or file 12 0 < 256 → file_refusal file ≡ None → fields_of x ≡ fields_at file
     → value_bytes x.list ++ (x.rows ++ table_bytes x.list) ≡ drop 13 file → parts_fit x ≡ true
-    → (x ≡ contents_of file) × (bytes_of x ≡ file)
-parts_are file x b h l same tail fit =
-    let head = head_stands file b (accepted_by file (whole_file file h l)) in
+    → (file_refusal file ≡ None) × (x ≡ contents_of file) × (bytes_of x ≡ file)
+parts_are file x low h same tail fit =
+    let head = head_stands file low (accepted_by file h) in
     let bytes : bytes_of x ≡ file =
     ap (λ f. head_bytes f ++ (value_bytes x.list ++ (x.rows ++ table_bytes x.list))) same
     ∙ ap (λ z. head_bytes (fields_at file) ++ z) tail
     ∙ head
     in
-    (sym (contents_back x fit) ∙ ap contents_of bytes, bytes)
+    (h, sym (contents_back x fit) ∙ ap contents_of bytes, bytes)

@@ -4,7 +4,7 @@
 
 #![tactic(auto)]
 
-ghost use Rattle.std.specs.Prelude.{◌≡◌, ◌+◌, ◌*◌, ◌<◌, ◌≤◌, true, ◌++◌, length, take, Some, None, MatchResult};
+ghost use Rattle.std.specs.Prelude.{◌≡◌, ◌+◌, ◌*◌, ◌<◌, ◌≤◌, true, ◌++◌, length, drop, Some, None, MatchResult};
 ghost use Rattle.faults.specs.Refusal.{refusal};
 ghost use Rattle.files.specs.Layout.{value_bytes, table_bytes, head_bytes, bytes_of, fields_at, value_size, rows_size, table_size, rows_start, file_length, list_from, contents_of};
 ghost use Rattle.files.specs.Contents.{form_number, fields_of};
@@ -145,11 +145,15 @@ fn read_form<'a>(kind: FormKind, own: &[u8], table: &'a [u8]) -> Form<'a>
 }
 
 // The parts of a file whose header and length stand.
+#[tactic(auto, using(std::proofs::lemmas::Slice::between_to_end))]
 fn split_parts<'a>(header: &Header, file: &'a [u8]) -> SchemeFile<'a>
-    requires accepted { head_refusal file.now ≡ None }
+    requires header { head_refusal file.now ≡ None }
     requires read { fields header.now ≡ fields_at file.now }
     requires whole { length file.now ≡ file_length (fields_at file.now) }
-    ensures { (contents result ≡ contents_of file.now) × (bytes_of (contents result) ≡ file.now) }
+    ensures accepted { file_refusal file.now ≡ None }
+    ensures fields { fields_of (contents result) ≡ fields_at file.now }
+    ensures tail { value_bytes (list_of result.form) ++ (result.rows.now ++ table_bytes (list_of result.form)) ≡ drop 13 file.now }
+    ensures fit { parts_fit (contents result) ≡ true }
 {
     let (own, rest) = file[HEADER..].split_at(header.form.own_size());
     let (rows, table) = rest.split_at(header.rows_size());
@@ -213,7 +217,7 @@ fn parts_fit(scheme: &SchemeFile, header: &Header) -> bool
 }
 
 // Fills the output with the bytes of the file.
-fn fill(scheme: &SchemeFile, out: &mut [u8])
+fn write_parts(scheme: &SchemeFile, out: &mut [u8])
     requires { length out.old ≡ length (bytes_of (contents scheme.now)) }
     ensures { out.new ≡ bytes_of (contents scheme.now) }
 {
@@ -242,7 +246,7 @@ pub fn write(scheme: &SchemeFile, out: &mut [u8]) -> Result<(), Fault>
     if !parts_fit(scheme, &header) || out.len() != header.file_length() {
         return Err(Fault::FileLength);
     }
-    fill(scheme, out);
+    write_parts(scheme, out);
     Ok(())
 }
 
