@@ -66,12 +66,8 @@ impl<'a> Form<'a> {
     {
         match self {
             Form::Table(_) => FormKind::Table,
-            Form::Shifts { step: _ } => FormKind::Shifts,
-            Form::Multiplier {
-                step: _,
-                factor: _,
-                powers: _,
-            } => FormKind::Multiplier,
+            Form::Shifts { .. } => FormKind::Shifts,
+            Form::Multiplier { .. } => FormKind::Multiplier,
         }
     }
 
@@ -170,7 +166,7 @@ fn split_parts<'a>(header: &Header, file: &'a [u8]) -> SchemeFile<'a>
 }
 
 // Reads a scheme file, or says what is wrong with it.
-pub fn read<'a>(file: &'a [u8]) -> Result<SchemeFile<'a>, Fault>
+pub fn read(file: &[u8]) -> Result<SchemeFile<'_>, Fault>
     ensures { MatchResult result (λ s. (file_refusal file.now ≡ None) × (contents s ≡ contents_of file.now) × (bytes_of (contents s) ≡ file.now)) (λ e. file_refusal file.now ≡ Some (refusal e)) }
 {
     let header = read_header(file)?;
@@ -180,7 +176,7 @@ pub fn read<'a>(file: &'a [u8]) -> Result<SchemeFile<'a>, Fault>
     Ok(split_parts(&header, file))
 }
 
-fn head_bytes(scheme: &SchemeFile) -> [u8; 13]
+fn head_bytes(scheme: &SchemeFile) -> [u8; HEADER]
     ensures { result ≡ head_bytes (fields_of (contents scheme.now)) }
 {
     let version = VERSION.to_be_bytes();
