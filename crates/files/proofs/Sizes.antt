@@ -2,6 +2,7 @@
 use Rattle.std.proofs.Common.{◌≡◌, ◌+◌, true, eqb, ◌++◌, length, refl, arith}
 use Rattle.std.proofs.lemmas.List.{length-append}
 use Rattle.std.proofs.lemmas.Bool.{and_parts, eqb-true}
+use Rattle.std.proofs.lemmas.Bool.Decides.{nat_tests}
 use Rattle.files.specs.Contents.{ListForm, table, shifts, multiplier, Contents, form_number, fields_of}
 use Rattle.files.specs.Layout.{value_bytes, table_bytes, bytes_of, value_size, rows_size, table_size, file_length}
 use Rattle.files.specs.Limits.{parts_fit}
@@ -18,22 +19,10 @@ value-size (shifts step) = refl
 value-size (multiplier step factor powers) = refl
 
 pub rows_fit : (x : Contents) → parts_fit x ≡ true → length x.rows ≡ rows_size (fields_of x)
-rows_fit x h =
-    eqb-true (length x.rows) (rows_size (fields_of x))
-    (and_parts
-    (eqb (length x.rows) (rows_size (fields_of x)))
-    (eqb (length (table_bytes x.list)) (table_size (fields_of x)))
-    h
-    ).0
+rows_fit x h = grind (arith, nat_tests)
 
 pub table_fits : (x : Contents) → parts_fit x ≡ true → length (table_bytes x.list) ≡ table_size (fields_of x)
-table_fits x h =
-    eqb-true (length (table_bytes x.list)) (table_size (fields_of x))
-    (and_parts
-    (eqb (length x.rows) (rows_size (fields_of x)))
-    (eqb (length (table_bytes x.list)) (table_size (fields_of x)))
-    h
-    ).1
+table_fits x h = grind (arith, nat_tests)
 
 -- parts that fit make a file of the length that the fields give
 pub fits_length : (x : Contents) → parts_fit x ≡ true → length (bytes_of x) ≡ file_length (fields_of x)

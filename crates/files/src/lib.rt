@@ -177,7 +177,8 @@ pub fn read(file: &[u8]) -> Result<SchemeFile<'_>, Fault>
 }
 
 fn head_bytes(scheme: &SchemeFile) -> [u8; HEADER]
-    ensures { result ≡ head_bytes (fields_of (contents scheme.now)) }
+    ensures bytes { result ≡ head_bytes (fields_of (contents scheme.now)) }
+    ensures fields { fields_at result ≡ fields_of (contents scheme.now) }
 {
     let version = VERSION.to_be_bytes();
     let count = scheme.count.to_be_bytes();
