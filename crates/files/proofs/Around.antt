@@ -1,15 +1,14 @@
 -- The way from contents to a file and back, and from a file to contents and back.
-use Rattle.std.proofs.Common.{zero, suc, ◌≡◌, ℕ, ◌+◌, ◌-◌, ◌*◌, ◌/◌, ◌%◌, ◌<◌, ◌≤◌, Bool, true, false, cond, ◌&&◌, eqb, leb, ◌⊎◌, List, [], ◌∷◌, ◌++◌, length, get_or, take, drop, Some, None, Option, sym, refl, ap, ◌∙◌, subst, inl, inr, arith}
+use Rattle.std.proofs.Common.{zero, suc, ◌≡◌, ℕ, ◌+◌, ◌-◌, ◌*◌, ◌/◌, ◌%◌, ◌<◌, ◌≤◌, Bool, true, cond, ◌&&◌, eqb, leb, List, [], ◌∷◌, ◌++◌, length, get_or, take, drop, None, Option, sym, refl, ap, ◌∙◌, arith}
 use Rattle.std.specs.List.{between}
-use Rattle.std.proofs.lemmas.List.{append-nil, length-drop, take-append-drop, take_at, take_all, drop_at, drop-drop, drop_more, take_rest}
+use Rattle.std.proofs.lemmas.List.{append-nil, take-append-drop, take_at, drop_at, drop-drop, drop_more, take_rest}
 use Rattle.std.proofs.lemmas.List.Edits.{length-between}
-use Rattle.std.proofs.lemmas.Bool.{and_from, and_parts, eq-eqb, eqb-true, le-leb, leb-true}
+use Rattle.std.proofs.lemmas.Bool.{eqb-true, leb-true}
 use Rattle.std.proofs.lemmas.Slice.{between_to_end}
 use Rattle.std.proofs.lemmas.Bool.Decides.{nat_tests}
-use Rattle.faults.specs.Refusal.{Refusal}
 use Rattle.files.specs.Contents.{ListForm, table, shifts, multiplier, Contents, Fields, form_number, fields_of}
 use Rattle.files.specs.Layout.{value_bytes, table_bytes, head_bytes, bytes_of, two_bytes, fields_at, value_size, rows_size, table_size, rows_start, rows_end, file_length, list_from, list_at, contents_of}
-use Rattle.files.specs.Limits.{wrong_field, refuse_unless, refuse_field, marked, or_else, head_refusal, file_refusal, parts_fit, contents_refusal}
+use Rattle.files.specs.Limits.{wrong_field, refuse_unless, refuse_field, marked, or_else, file_refusal, parts_fit, contents_refusal}
 use Rattle.files.specs.Trips.{Bytes, Written}
 use Rattle.files.proofs.Sizes.{length_bytes, rows_fit, fits_length}
 

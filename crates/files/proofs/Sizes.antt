@@ -1,7 +1,6 @@
 -- Lengths of what is written.
-use Rattle.std.proofs.Common.{◌≡◌, ◌+◌, true, eqb, ◌++◌, length, refl, arith}
+use Rattle.std.proofs.Common.{◌≡◌, ◌+◌, true, ◌++◌, length, refl, arith}
 use Rattle.std.proofs.lemmas.List.{length-append}
-use Rattle.std.proofs.lemmas.Bool.{and_parts, eqb-true}
 use Rattle.std.proofs.lemmas.Bool.Decides.{nat_tests}
 use Rattle.files.specs.Contents.{ListForm, table, shifts, multiplier, Contents, form_number, fields_of}
 use Rattle.files.specs.Layout.{value_bytes, table_bytes, bytes_of, value_size, rows_size, table_size, file_length}

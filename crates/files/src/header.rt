@@ -3,11 +3,12 @@ ghost use Rattle.std.specs.Prelude.{◌≡◌, ◌<◌, ◌≤◌, true, false, 
 ghost use Rattle.std.specs.Range.{range_inclusive_start, range_inclusive_end, range_inclusive_exhausted};
 ghost use Rattle.faults.specs.declared.Fault.TheVariants.{FileField};
 ghost use Rattle.faults.specs.Refusal.{refusal};
-ghost use Rattle.files.specs.Held.{family_number};
-ghost use Rattle.files.specs.Layout.{fields_at, value_size, rows_size, table_size, file_length};
-ghost use Rattle.files.specs.Limits.{outside, greatest_base, wrong_field, refuse_field};
+ghost use Rattle.files.specs.Held.{family_number, contents};
+ghost use Rattle.files.specs.Contents.{fields_of};
+ghost use Rattle.files.specs.Layout.{head_bytes, fields_at, value_size, rows_size, table_size, file_length};
+ghost use Rattle.files.specs.Limits.{outside, greatest_base, wrong_field, refuse_field, marked, head_refusal};
 
-use crate::Family;
+use crate::{Family, SchemeFile};
 use faults::Fault;
 use std::ops::RangeInclusive;
 
@@ -15,9 +16,9 @@ use std::ops::RangeInclusive;
 pub const HEADER: usize = 13;
 
 // The first three bytes.
-pub const MARK: [u8; 3] = *b"PDS";
+const MARK: [u8; 3] = *b"PDS";
 
-pub const VERSION: u16 = 1;
+const VERSION: u16 = 1;
 
 // The form that the header names. What the form holds stands after the header.
 #[derive(Clone, Copy)]
@@ -89,8 +90,24 @@ pub struct Header {
 impl Header {
     ghost use Rattle.files.specs.Header.{fields};
 
+    // The header of a file that has the mark and the version, and fields within their values.
+    pub fn read(file: &[u8]) -> Result<Header, Fault>
+        ensures { MatchResult result (λ h. (head_refusal file.now ≡ None) × (fields h ≡ fields_at file.now)) (λ e. head_refusal file.now ≡ Some (refusal e)) }
+    {
+        if file.len() < HEADER {
+            return Err(Fault::FileShort);
+        }
+        if !is_marked(file) {
+            return Err(Fault::FileMark);
+        }
+        if u16::from_be_bytes([file[3], file[4]]) != VERSION {
+            return Err(Fault::FileVersion);
+        }
+        Header::fields(file)
+    }
+
     // Reads the fields in the order of their bytes. The first byte that is outside its values is refused.
-    pub fn read(bytes: &[u8]) -> Result<Header, Fault>
+    pub fn fields(bytes: &[u8]) -> Result<Header, Fault>
         requires { 13 ≤ length bytes.now }
         ensures { MatchResult result (λ h. (wrong_field (fields_at bytes.now) ≡ None) × (fields h ≡ fields_at bytes.now)) (λ e. refuse_field (wrong_field (fields_at bytes.now)) None ≡ Some (refusal e)) }
     {
@@ -165,4 +182,35 @@ fn field(bytes: &[u8], byte: u8, range: RangeInclusive<u8>) -> Result<u8, Fault>
         return Err(Fault::FileField { byte });
     }
     Ok(value)
+}
+
+fn is_marked(file: &[u8]) -> bool
+    requires { 13 ≤ length file.now }
+    ensures { result ≡ marked file.now }
+{
+    file.starts_with(&MARK)
+}
+
+// The header of the scheme's file. Its fields can be outside their values.
+pub fn head_bytes(scheme: &SchemeFile) -> [u8; HEADER]
+    ensures bytes { result ≡ head_bytes (fields_of (contents scheme.now)) }
+    ensures fields { fields_at result ≡ fields_of (contents scheme.now) }
+{
+    let version = VERSION.to_be_bytes();
+    let count = scheme.count.to_be_bytes();
+    [
+        MARK[0],
+        MARK[1],
+        MARK[2],
+        version[0],
+        version[1],
+        scheme.family.into(),
+        scheme.base,
+        scheme.n,
+        scheme.k,
+        scheme.t,
+        scheme.form.kind().into(),
+        count[0],
+        count[1],
+    ]
 }

@@ -14,7 +14,7 @@ ghost use Rattle.files.specs.Header.{kind_number, fields};
 ghost use Rattle.files.specs.Trips.{Written, WrittenIsRead, ReadIsWritten};
 
 use faults::Fault;
-use header::{FormKind, HEADER, Header, MARK, VERSION};
+use header::{FormKind, HEADER, Header, head_bytes};
 
 mod header;
 
@@ -99,29 +99,6 @@ pub struct SchemeFile<'a> {
     pub form: Form<'a>,
 }
 
-fn is_marked(file: &[u8]) -> bool
-    requires { 13 ≤ length file.now }
-    ensures { result ≡ marked file.now }
-{
-    file.starts_with(&MARK)
-}
-
-// The header of a file that has the mark and the version, and fields within their values.
-fn read_header(file: &[u8]) -> Result<Header, Fault>
-    ensures { MatchResult result (λ h. (head_refusal file.now ≡ None) × (fields h ≡ fields_at file.now)) (λ e. head_refusal file.now ≡ Some (refusal e)) }
-{
-    if file.len() < HEADER {
-        return Err(Fault::FileShort);
-    }
-    if !is_marked(file) {
-        return Err(Fault::FileMark);
-    }
-    if u16::from_be_bytes([file[3], file[4]]) != VERSION {
-        return Err(Fault::FileVersion);
-    }
-    Header::read(file)
-}
-
 fn read_form<'a>(kind: FormKind, own: &[u8], table: &'a [u8]) -> Form<'a>
     requires own { length own.now ≡ value_size (kind_number kind) }
     requires table { 0 < kind_number kind → length table.now ≡ 0 }
@@ -169,41 +146,11 @@ fn split_parts<'a>(header: &Header, file: &'a [u8]) -> SchemeFile<'a>
 pub fn read(file: &[u8]) -> Result<SchemeFile<'_>, Fault>
     ensures { MatchResult result (λ s. (file_refusal file.now ≡ None) × (contents s ≡ contents_of file.now) × (bytes_of (contents s) ≡ file.now)) (λ e. file_refusal file.now ≡ Some (refusal e)) }
 {
-    let header = read_header(file)?;
+    let header = Header::read(file)?;
     if file.len() != header.file_length() {
         return Err(Fault::FileLength);
     }
     Ok(split_parts(&header, file))
-}
-
-fn head_bytes(scheme: &SchemeFile) -> [u8; HEADER]
-    ensures bytes { result ≡ head_bytes (fields_of (contents scheme.now)) }
-    ensures fields { fields_at result ≡ fields_of (contents scheme.now) }
-{
-    let version = VERSION.to_be_bytes();
-    let count = scheme.count.to_be_bytes();
-    [
-        MARK[0],
-        MARK[1],
-        MARK[2],
-        version[0],
-        version[1],
-        scheme.family.into(),
-        scheme.base,
-        scheme.n,
-        scheme.k,
-        scheme.t,
-        scheme.form.kind().into(),
-        count[0],
-        count[1],
-    ]
-}
-
-// The header of the scheme's file, or the first byte of it that is outside its values.
-fn header_of(scheme: &SchemeFile) -> Result<Header, Fault>
-    ensures { MatchResult result (λ h. (wrong_field (fields_of (contents scheme.now)) ≡ None) × (fields h ≡ fields_of (contents scheme.now))) (λ e. refuse_field (wrong_field (fields_of (contents scheme.now))) None ≡ Some (refusal e)) }
-{
-    Header::read(&head_bytes(scheme))
 }
 
 fn parts_fit(scheme: &SchemeFile, header: &Header) -> bool
@@ -239,7 +186,7 @@ fn write_parts(scheme: &SchemeFile, out: &mut [u8])
 pub fn write(scheme: &SchemeFile, out: &mut [u8]) -> Result<(), Fault>
     ensures { MatchResult result (λ _. (write_refusal (contents scheme.now) (length out.old) ≡ None) × Written (contents scheme.now) out.new) (λ e. (write_refusal (contents scheme.now) (length out.old) ≡ Some (refusal e)) × (out.new ≡ out.old)) }
 {
-    let header = header_of(scheme)?;
+    let header = Header::fields(&head_bytes(scheme))?;
     if !parts_fit(scheme, &header) || out.len() != header.file_length() {
         return Err(Fault::FileLength);
     }

@@ -5,4 +5,4 @@ use Rattle.files.proofs.write.Goals as goal
 
 pub returns : goal.returns
 returns c =
-    (search rules, written (contents c.args.scheme.now) _ c.in_ok-header.ensures.0 (search rules) c.write_parts.ensures)
+    (search rules, written (contents c.args.scheme.now) _ (search rules) (search rules) c.write_parts.ensures)
