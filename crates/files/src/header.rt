@@ -57,6 +57,7 @@ impl From<FormKind> for u8 {
     }
 }
 
+// Byte 10 of a file names the form.
 impl TryFrom<u8> for FormKind {
     type Error = Fault;
 
@@ -74,7 +75,7 @@ impl TryFrom<u8> for FormKind {
     }
 }
 
-// The fields of a header, each within its values.
+// The fields of a header that has passed the checks of `Header::fields`.
 #[derive(Clone, Copy)]
 pub struct Header {
     pub family: Family,

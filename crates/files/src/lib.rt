@@ -36,6 +36,7 @@ impl From<Family> for u8 {
     }
 }
 
+// Byte 5 of a file names the family.
 impl TryFrom<u8> for Family {
     type Error = Fault;
 
@@ -99,6 +100,7 @@ pub struct SchemeFile<'a> {
     pub form: Form<'a>,
 }
 
+// A form of this kind, with its own bytes and its table. Only a table's form has one.
 fn read_form<'a>(kind: FormKind, own: &[u8], table: &'a [u8]) -> Form<'a>
     requires own { length own.now ≡ value_size (kind_number kind) }
     requires table { 0 < kind_number kind → length table.now ≡ 0 }
@@ -153,6 +155,7 @@ pub fn read(file: &[u8]) -> Result<SchemeFile<'_>, Fault>
     Ok(split_parts(&header, file))
 }
 
+// Whether check rows and table have the sizes that the header gives.
 fn parts_fit(scheme: &SchemeFile, header: &Header) -> bool
     requires { fields header.now ≡ fields_of (contents scheme.now) }
     ensures { result ≡ parts_fit (contents scheme.now) }
@@ -183,6 +186,7 @@ fn write_parts(scheme: &SchemeFile, out: &mut [u8])
 }
 
 // Writes a scheme file over the whole output. A refusal leaves the output as it was.
+// The fields are those that a reader of the header would accept.
 pub fn write(scheme: &SchemeFile, out: &mut [u8]) -> Result<(), Fault>
     ensures { MatchResult result (λ _. (write_refusal (contents scheme.now) (length out.old) ≡ None) × Written (contents scheme.now) out.new) (λ e. (write_refusal (contents scheme.now) (length out.old) ≡ Some (refusal e)) × (out.new ≡ out.old)) }
 {
