@@ -4,11 +4,11 @@
 
 #![tactic(auto)]
 
-ghost use Rattle.std.specs.Prelude.{◌≡◌, ◌+◌, ◌*◌, ◌<◌, ◌≤◌, true, ◌++◌, length, drop, Some, None, MatchResult};
+ghost use Rattle.std.specs.Prelude.{◌≡◌, ◌<◌, true, ◌++◌, length, drop, Some, None, MatchResult};
 ghost use Rattle.faults.specs.Refusal.{refusal};
-ghost use Rattle.files.specs.Layout.{value_bytes, table_bytes, head_bytes, bytes_of, fields_at, value_size, rows_size, table_size, rows_start, file_length, list_from, contents_of};
+ghost use Rattle.files.specs.Layout.{value_bytes, table_bytes, bytes_of, fields_at, value_size, file_length, contents_of};
 ghost use Rattle.files.specs.Contents.{form_number, fields_of};
-ghost use Rattle.files.specs.Limits.{wrong_field, refuse_field, marked, head_refusal, file_refusal, parts_fit, write_refusal};
+ghost use Rattle.files.specs.Limits.{head_refusal, file_refusal, parts_fit, write_refusal};
 ghost use Rattle.files.specs.Held.{family_number, NamesFamily, list_of, contents};
 ghost use Rattle.files.specs.Header.{kind_number, fields};
 ghost use Rattle.files.specs.Trips.{Written, WrittenIsRead, ReadIsWritten};
