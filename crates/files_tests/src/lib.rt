@@ -17,16 +17,15 @@ mod tests {
     use std::test::Fail;
 
     // Number and first place of the refusal, or 0 and 0.
-    fn reading(file: &[u8]) -> (u8, u64) {
-        match files::read(file) {
-            Ok(_) => (0, 0),
-            Err(fault) => (fault.number(), fault.first()),
-        }
+    fn refused<T: Drop>(answer: Result<T, Fault>) -> (u8, u64) {
+        answer
+            .err()
+            .map_or((0, 0), |fault| (fault.number(), fault.first()))
     }
 
     fn set(file: &mut [u8], place: usize, value: u8) {
-        if place < file.len() {
-            file[place] = value;
+        if let Some(byte) = file.get_mut(place) {
+            *byte = value;
         }
     }
 
@@ -81,24 +80,20 @@ mod tests {
             let mut file = SHIFTS;
             set(&mut file, place, value);
             set(&mut file, other, changed);
-            assert_eq!(rt; reading(&file), (number, first));
+            assert_eq!(rt; refused(files::read(&file)), (number, first));
         }
     }
 
     // The same for the first bytes of a file.
     fn reading_first(file: &[u8], size: usize) -> (u8, u64) {
-        if size > file.len() {
-            return (0, 0);
-        }
-        reading(&file[..size])
+        file.get(..size)
+            .map_or((0, 0), |part| refused(files::read(part)))
     }
 
     #[test]
     fn lengths(rt: HostRuntime) {
-        let file = [
-            0x50, 0x44, 0x53, 0, 1, 0, 2, 7, 4, 1, 1, 0, 5, 1, 1, 1, 0, 0, 1, 1, 1, 1, 1, 1, 0, 1,
-            0,
-        ];
+        let mut file = [0; 27];
+        file[..26].copy_from_slice(&SHIFTS);
         for size in 0..=27 {
             let number = match size {
                 0..=12 => 18,
@@ -174,14 +169,6 @@ mod tests {
         again(&rt, &file, &mut [0u8; 18])
     }
 
-    // Number and first place of the refusal, or 0 and 0.
-    fn writing(scheme: &SchemeFile, out: &mut [u8]) -> (u8, u64) {
-        match files::write(scheme, out) {
-            Ok(()) => (0, 0),
-            Err(fault) => (fault.number(), fault.first()),
-        }
-    }
-
     #[test]
     fn refused_writing(rt: HostRuntime) {
         let rows = [1u8; 12];
@@ -219,7 +206,10 @@ mod tests {
             };
             let mut out = [0xaau8; 27];
             if size <= out.len() {
-                assert_eq!(rt; writing(&scheme, &mut out[..size]), (number, first));
+                assert_eq!(rt;
+                    refused(files::write(&scheme, &mut out[..size])),
+                    (number, first)
+                );
                 assert!(rt; (number == 0) == (out[0] == 0x50));
                 assert!(rt; (number == 0) == (out[25] == 1));
                 assert!(rt; out[26] == 0xaa);
@@ -229,9 +219,9 @@ mod tests {
 
     // Writes two rows of three with a table that has the first bytes of `bytes`.
     fn writing_table(base: u8, bytes: &[u8], size: usize, out: &mut [u8]) -> (u8, u64) {
-        if size > bytes.len() {
+        let Some(table) = bytes.get(..size) else {
             return (0, 0);
-        }
+        };
         let scheme = SchemeFile {
             family: Family::TwoPower,
             base,
@@ -240,9 +230,9 @@ mod tests {
             t: 1,
             count: 2,
             rows: &[1, 2],
-            form: Form::Table(&bytes[..size]),
+            form: Form::Table(table),
         };
-        writing(&scheme, out)
+        refused(files::write(&scheme, out))
     }
 
     #[test]
