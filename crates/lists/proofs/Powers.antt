@@ -1,54 +1,25 @@
 -- Products and powers modulo n, and powers by squaring.
-use Rattle.std.proofs.Common.{◌≡◌, ℕ, zero, suc, ◌+◌, ◌*◌, ◌/◌, ◌%◌, ◌^◌, ◌<◌, sym, ap, ◌∙◌, mod-eq_of_lt, mul_assoc, mul_comm, add-mul, one-mul, pow-suc, arith}
-use native.Mathlib.Nat.{div-add-mod, mul-add-mod_self_left, pow-zero, mod-mod}
-
--- A factor may be reduced.
-pub mod-mul : (a b n : ℕ) → (a % n * b) % n ≡ (a * b) % n
-mod-mul a b n =
-    sym (ap (λ x. (x * b) % n) (sym (div-add-mod a n))
-    ∙ ap (λ x. x % n) (add-mul (n * (a / n)) (a % n) b ∙ ap (λ y. y + a % n * b) (mul_assoc n (a / n) b))
-    ∙ mul-add-mod_self_left n (a / n * b) (a % n * b))
+use Rattle.std.proofs.Common.{◌≡◌, ℕ, suc, ◌+◌, ◌*◌, ◌/◌, ◌%◌, ◌^◌, ◌<◌, sym, ap, ◌∙◌, mod-eq_of_lt, mul_assoc, mul_comm, one-mul, pow-suc, arith}
+use native.Mathlib.Nat.{pow-zero}
+use Rattle.std.proofs.lemmas.Nat.{mul-mod_first, mul-mod_second, pow-mod, mul-pow, pow-add}
 
 -- Factors that are equal modulo n give products that are.
-pub mul_left : (a b c n : ℕ) → a % n ≡ b % n → (a * c) % n ≡ (b * c) % n
-mul_left a b c n e = sym (mod-mul a c n) ∙ ap (λ x. (x * c) % n) e ∙ mod-mul b c n
-
-pub mul_both : (a b c d n : ℕ) → a % n ≡ b % n → c % n ≡ d % n → (a * c) % n ≡ (b * d) % n
-mul_both a b c d n e f =
-    mul_left a b c n e
-    ∙ ap (λ x. x % n) (mul_comm b c)
-    ∙ mul_left c d b n f
-    ∙ ap (λ x. x % n) (mul_comm d b)
-
--- A base may be reduced.
-pub pow_left : (a b k n : ℕ) → a % n ≡ b % n → (a ^ k) % n ≡ (b ^ k) % n
-pow_left a b zero n e = ap (λ x. x % n) (pow-zero a ∙ sym (pow-zero b))
-pow_left a b (suc k) n e =
-    ap (λ x. x % n) (pow-suc a k)
-    ∙ mul_both (a ^ k) (b ^ k) a b n (pow_left a b k n e) e
-    ∙ ap (λ x. x % n) (sym (pow-suc b k))
+mul_left : (a b c n : ℕ) → a % n ≡ b % n → (a * c) % n ≡ (b * c) % n
+mul_left a b c n e = sym (mul-mod_first a c n) ∙ ap (λ x. (x * c) % n) e ∙ mul-mod_first b c n
 
 -- Both the base and the factor of a power may be reduced.
 pub reduced : (s k p n : ℕ) → ((s % n) ^ k * (p % n)) % n ≡ (s ^ k * p) % n
-reduced s k p n =
-    mul_both ((s % n) ^ k) (s ^ k) (p % n) p n (pow_left (s % n) s k n (mod-mod s n)) (mod-mod p n)
+reduced s k p n = mul-mod_second ((s % n) ^ k) p n ∙ mul_left ((s % n) ^ k) (s ^ k) p n (pow-mod s k n)
 
 -- The square to the power h is the power 2 h.
-pub square_pow : (s h : ℕ) → (s * s) ^ h ≡ s ^ (h + h)
-square_pow s zero = pow-zero (s * s) ∙ sym (pow-zero s)
-square_pow s (suc h) =
-    pow-suc (s * s) h
-    ∙ ap (λ x. x * (s * s)) (square_pow s h)
-    ∙ sym (mul_assoc (s ^ (h + h)) s s)
-    ∙ ap (λ x. x * s) (sym (pow-suc s (h + h)))
-    ∙ sym (pow-suc s (suc (h + h)))
-    ∙ ap (λ x. s ^ x) (omega arith)
+square_pow : (s h : ℕ) → (s * s) ^ h ≡ s ^ (h + h)
+square_pow s h = mul-pow s s h ∙ sym (pow-add s h h)
 
 -- One turn of the loop at an even exponent k: the base is squared.
 pub even_turn : (s k p n : ℕ) → k % 2 ≡ 0 → ((s * s % n) ^ (k / 2) * p) % n ≡ (s ^ k * p) % n
 even_turn s k p n e =
     let twice : k / 2 + k / 2 ≡ k = omega arith in
-    mul_left _ _ p n (pow_left (s * s % n) (s * s) (k / 2) n (mod-mod (s * s) n))
+    mul_left _ _ p n (pow-mod (s * s) (k / 2) n)
     ∙ ap (λ x. (x * p) % n) (square_pow s (k / 2) ∙ ap (λ x. s ^ x) twice)
 
 -- One turn of the loop at an odd exponent k: a factor goes to p, and the base is squared.

@@ -4,7 +4,7 @@
 
 #![tactic(auto)]
 
-ghost use Rattle.std.specs.Prelude.{◌≡◌, ℕ, ◌+◌, ◌*◌, ◌%◌, ◌^◌, ◌<◌, length, MatchResult, slice_index};
+ghost use Rattle.std.specs.Prelude.{◌≡◌, ℕ, ◌+◌, ◌*◌, ◌%◌, ◌^◌, ◌<◌, ◌≤◌, length, MatchResult, slice_index};
 ghost use Rattle.faults.specs.Refusal.{refusal, refuse};
 ghost use Rattle.lists.specs.Bounded.{table_bounds, shifts_bounds, multiplied_bounds};
 ghost use Rattle.lists.specs.Meaning.{Meaning, Bounds, Fair, reply, table, shifts, multiplied};
@@ -26,14 +26,24 @@ pub struct Targets {
 }
 
 impl Targets {
+    // What a list tells of a number that it does not have.
+    fn none() -> Targets
+        ensures { result.n ≡ 0 }
+    {
+        Targets {
+            n: 0,
+            places: [0; 64],
+        }
+    }
+
     // Where the permutation takes position p, as the list would reply; `None` from position 64 on.
     pub fn target(&self, p: u8) -> Option<u8>
         ensures { result ≡ told self.now p }
     {
-        if p >= self.n || p >= 64 {
+        if p >= self.n {
             return None;
         }
-        Some(self.places[p as usize])
+        self.places.get(p as usize).copied()
     }
 }
 
@@ -63,11 +73,11 @@ pub trait Permutations {
     {
         let n = self.length().min(64);
         let mut places = [0u8; 64];
-        for p in 0..n {
-            let Some(to) = self.target(i, p) else {
-                return Targets { n: 0, places };
+        for (p, place) in places[..n as usize].iter_mut().enumerate() {
+            let Some(to) = self.target(i, p as u8) else {
+                return Targets::none();
             };
-            places[p as usize] = to;
+            *place = to;
         }
         Targets { n, places }
     }
@@ -78,6 +88,7 @@ pub trait Permutations {
 pub struct Table<'a> {
     n: u8,
     part: &'a [u8],
+    ghost fair: { Fair n (length part.now) },
 }
 
 impl<'a> Table<'a> {
@@ -85,11 +96,11 @@ impl<'a> Table<'a> {
     pub fn new(n: u8, part: &'a [u8]) -> Result<Table<'a>, Fault>
         ensures { MatchResult result (λ t. (t.n ≡ n) × (t.part.now ≡ part.now) × Fair n (length part.now)) (λ e. (refusal e ≡ refuse 2 0 0) × (Fair n (length part.now) → ⊥)) }
     {
-        if n < 1 || n > WIDEST {
+        if !(1..=WIDEST).contains(&n) {
             return Err(Fault::TableShape);
         }
         let width = n as usize;
-        if part.len() % width != 0 || part.len() / width > MOST as usize {
+        if !part.len().is_multiple_of(width) || part.len() / width > MOST as usize {
             return Err(Fault::TableShape);
         }
         Ok(Table { n, part })
@@ -106,26 +117,16 @@ impl<'a> Permutations for Table<'a> {
     }
 
     fn count(&self) -> u16 {
-        if self.n == 0 {
-            return 0;
-        }
-        (self.part.len() / self.n as usize).min(MOST as usize) as u16
+        (self.part.len() / self.n as usize) as u16
     }
 
     fn target(&self, i: u16, p: u8) -> Option<u8> {
-        let first = i as usize * self.n as usize;
-        if i >= MOST || p >= self.n || self.part.len() < first + self.n as usize {
+        if p >= self.n {
             return None;
         }
-        Some(byte_at(self.part, first + p as usize))
+        let at = i as usize * self.n as usize + p as usize;
+        self.part.get(at).copied()
     }
-}
-
-fn byte_at(part: &[u8], at: usize) -> u8
-    requires { at < length part.now }
-    ensures { result ≡ slice_index part.now at }
-{
-    part[at]
 }
 
 // Shifts by the multiples of a step: number j takes p to (p + step * j) mod n. More than 512 are cut off.
@@ -158,13 +159,10 @@ impl Permutations for Shifts {
     }
 
     fn target(&self, j: u16, p: u8) -> Option<u8> {
-        if j >= self.count() || self.n == 0 {
+        if j >= self.count() || p >= self.n {
             return None;
         }
         let turn = (self.step as u32 * j as u32 % self.n as u32) as u8;
-        if p >= self.n {
-            return None;
-        }
         Some(around(p, turn, self.n))
     }
 }
@@ -209,7 +207,7 @@ impl<L: Permutations> Permutations for Multiplier<L> {
     }
 
     fn count(&self) -> u16 {
-        (self.r as u32 * self.below.count() as u32).min(MOST as u32) as u16
+        (self.r as u16).saturating_mul(self.below.count()).min(MOST)
     }
 
     fn target(&self, x: u16, p: u8) -> Option<u8> {
@@ -227,23 +225,21 @@ impl<L: Permutations> Permutations for Multiplier<L> {
     fn targets(&self, x: u16) -> Targets {
         let m = self.below.count();
         let n = self.below.length();
-        let mut places = [0u8; 64];
         if x >= self.count() || n == 0 {
-            return Targets { n: 0, places };
+            return Targets::none();
         }
+        let mut places = [0u8; 64];
         let power = power_times(self.g, x / m, 1, n);
+        let told = n.min(64);
         let mut at = 0u8;
-        for p in 0..n.min(64) {
+        for place in places[..told as usize].iter_mut() {
             let Some(to) = self.below.target(x % m, at) else {
                 return unreachable();
             };
-            places[p as usize] = to;
+            *place = to;
             at = around(at, power, n);
         }
-        Targets {
-            n: n.min(64),
-            places,
-        }
+        Targets { n: told, places }
     }
 }
 

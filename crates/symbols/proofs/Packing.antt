@@ -1,7 +1,7 @@
 -- Packed multiples of polynomials: that they are right, by one computed test, and the sum that the code forms with them.
-use Rattle.std.proofs.Common.{◌≡◌, ℕ, ◌+◌, ◌-◌, ◌*◌, ◌/◌, ◌%◌, ◌^◌, ◌<◌, ◌≤◌, Bool, T, eqb, List, [], get_or, sym, ap, ◌∙◌, subst, ap₂, mod-lt, mod-eq_of_lt, arith, eqb→eq}
+use Rattle.std.proofs.Common.{◌≡◌, ℕ, ◌+◌, ◌-◌, ◌*◌, ◌/◌, ◌%◌, ◌^◌, ◌<◌, ◌≤◌, Bool, T, eqb, List, [], get_or, sym, ap, ◌∙◌, subst, mod-lt, mod-eq_of_lt, arith, eqb→eq}
 use lib.Bits.{bit_xor, bit_and}
-use Rattle.std.proofs.lemmas.Nat.{pow_pos, one_shl}
+use Rattle.std.proofs.lemmas.Nat.{pow_pos}
 use Rattle.symbols.specs.Ring.{plus, times}
 use Rattle.symbols.specs.Polynomials.{two_power}
 use Rattle.symbols.specs.Packed.{packed, Multiples}
@@ -32,17 +32,13 @@ multiples_are t p w f l h b c b' =
     (at₂ (2 ^ (w - 2 + 2)) (right t (w - 2 + 2)) (at 3 (λ i. all₂ (2 ^ (i + 2)) (right t (i + 2))) p (w - 2) (omega arith))) f c b b')
 
 -- a reduced code is below 16
-pub code_small : (w r : ℕ) → w ≤ 4 → r % ((1 * 2 ^ w) % 256) < 16
-code_small w r h =
-    let q = one_shl w 8 (omega arith) in
-    omega (arith, q, high w h, mod-lt r {m = (1 * 2 ^ w) % 256} (omega (arith, q, pow_pos w)))
+pub code_small : (w r : ℕ) → w ≤ 4 → r % 2 ^ w < 16
+code_small w r h = omega (arith, high w h, mod-lt r (pow_pos w))
 
--- the sum with a multiple x that is read from the packed ones
-pub sum_is : (w q f s r m x : ℕ) → 2 ≤ w → w ≤ 4 → q ≡ 2 ^ w → Multiples w (f % q) m → x ≡ packed m (r % q)
-    → bit_xor (s % q) x ≡ plus (two_power w) s (times (two_power w) f r)
-sum_is w q f s r m x l h e g y =
+-- the sum with a multiple that is read from the packed ones, m having those of f
+pub sum_is : (w f s r m : ℕ) → 2 ≤ w → w ≤ 4 → Multiples w (f % 2 ^ w) m
+    → bit_xor (s % 2 ^ w) (packed m (r % 2 ^ w)) ≡ plus (two_power w) s (times (two_power w) f r)
+sum_is w f s r m l h g =
     let below : (n : ℕ) → n % 2 ^ w < 2 ^ w = λ n. mod-lt n (pow_pos w) in
-    let b : r % q < 2 ^ w = subst (λ (n : ℕ). r % n < 2 ^ w) (sym e) (below r) in
-    ap₂ bit_xor (ap (λ n. s % n) e)
-    (y ∙ g (r % q) b ∙ ap (λ n. (two_power w).mul (f % n) (r % n)) e
+    ap (bit_xor (s % 2 ^ w)) (g (r % 2 ^ w) (below r)
     ∙ sym (mod-eq_of_lt ((two_power_rules w l h).mul_below (f % 2 ^ w) (r % 2 ^ w) (below f) (below r))))

@@ -3,7 +3,7 @@
 
 #![tactic(auto)]
 
-ghost use Rattle.std.specs.Prelude.{◌≡◌, ℕ, ◌+◌, ◌-◌, ◌*◌, ◌/◌, ◌%◌, ◌^◌, ◌<◌, ◌≤◌, MatchResult};
+ghost use Rattle.std.specs.Prelude.{◌≡◌, ℕ, ◌+◌, ◌-◌, ◌*◌, ◌/◌, ◌%◌, ◌^◌, ◌<◌, ◌≤◌, length, MatchResult, slice_index};
 ghost use Rattle.faults.specs.Refusal.{refusal, refuse};
 ghost use Rattle.symbols.specs.Ring.{Ring, RingRules, plus, minus, times, added, residues};
 ghost use Rattle.symbols.specs.Polynomials.{two_power};
@@ -34,12 +34,27 @@ pub trait Kind {
     fn add_multiple(&self, factor: u8, row: &[u8], sums: &mut [u8])
         ensures { sums.new ≡ added (ring self.now) factor row.now sums.old }
     {
-        for j in 0..sums.len().min(row.len()) {
-            sums[j] = self.sum(sums[j], self.product(factor, row[j]));
-        }
+        combine(
+            row,
+            sums,
+            |sum, code| self.sum(sum, self.product(factor, code)),
+        );
     }
 
     ghost rules: { (k : Self) → RingRules (ring k) };
+}
+
+// Puts into sums what add makes of each sum and the row's code at its place. Sums past the row's end stay.
+fn combine<F: Fn(u8, u8) -> u8>(row: &[u8], sums: &mut [u8], add: F)
+    requires { F.IsAlwaysCallable add }
+    ensures long { length sums.new ≡ length sums.old }
+    ensures combined { (j : ℕ) → j < length sums.old → j < length row.now → F.post add (slice_index sums.old j) (slice_index row.now j) (slice_index sums.new j) }
+    ensures stays { (j : ℕ) → length row.now ≤ j → slice_index sums.new j ≡ slice_index sums.old j }
+{
+    let both = sums.len().min(row.len());
+    for (j, sum) in sums[..both].iter_mut().enumerate() {
+        *sum = add(*sum, row[j]);
+    }
 }
 
 // Residues b: counting modulo b, for b from 2 to 16.
@@ -54,7 +69,7 @@ impl Residues {
     pub fn new(b: u8) -> Result<Residues, Fault>
         ensures { MatchResult result (λ k. (2 ≤ b) × (b ≤ 16) × (k.b ≡ b)) (λ e. (refusal e ≡ refuse 1 0 0) × ((2 ≤ b) × (b ≤ 16) → ⊥)) }
     {
-        if b < 2 || b > 16 {
+        if !(2..=16).contains(&b) {
             return Err(Fault::KindRange);
         }
         Ok(Residues { b })
@@ -84,42 +99,47 @@ impl Kind for Residues {
 
     fn add_multiple(&self, factor: u8, row: &[u8], sums: &mut [u8]) {
         if self.b == 2 {
-            add_bits(factor, row, sums);
+            // Modulo 2 the last bit of a product is an and, that of a sum an exclusive or.
+            combine(row, sums, |sum, code| (sum ^ factor & code) % 2);
         } else {
-            add_residues(self.b, factor, row, sums);
+            let multiples = ResidueMultiples::new(*self, factor);
+            combine(row, sums, |sum, code| multiples.add(sum, code));
         }
     }
 }
 
-// Adds the multiples of a row's codes to sums modulo 2: the last bit of a product is an and, that of a sum an exclusive or.
-fn add_bits(factor: u8, row: &[u8], sums: &mut [u8])
-    ensures { sums.new ≡ added (residues 2) factor row.now sums.old }
-{
-    for j in 0..sums.len().min(row.len()) {
-        sums[j] = (sums[j] ^ factor & row[j]) % 2;
-    }
+// The multiples of one factor modulo b, which are added with no division.
+// The factor is kept reduced too, and the reciprocal is the least whole number above 65536 / b.
+#[derive(Clone, Copy)]
+struct ResidueMultiples {
+    kind: Residues,
+    factor: u8,
+    reduced: u8,
+    reciprocal: u16,
+    ghost reduced_is: { reduced ≡ factor % kind.b },
+    ghost reciprocal_is: { reciprocal ≡ 65536 / kind.b + 1 },
 }
 
-// Adds the multiples of a row's codes to sums modulo b, with no division in the loop.
-fn add_residues(b: u8, factor: u8, row: &[u8], sums: &mut [u8])
-    requires { (2 ≤ b) × (b ≤ 16) }
-    ensures { sums.new ≡ added (residues b) factor row.now sums.old }
-{
-    let reduced = (factor % b) as u16;
-    let reciprocal = (65536 / b as u32 + 1) as u16;
-    for j in 0..sums.len().min(row.len()) {
-        sums[j] = remainder(sums[j] as u16 + reduced * row[j] as u16, b, reciprocal);
+impl ResidueMultiples {
+    fn new(kind: Residues, factor: u8) -> ResidueMultiples
+        ensures { (result.kind.b ≡ kind.b) × (result.factor ≡ factor) }
+    {
+        ResidueMultiples {
+            kind,
+            factor,
+            reduced: factor % kind.b,
+            reciprocal: (65536 / kind.b as u32 + 1) as u16,
+        }
     }
-}
 
-// The remainder of x on division by b. The quotient is the high half of x times the reciprocal, the least whole number above 65536 / b.
-fn remainder(x: u16, b: u8, reciprocal: u16) -> u8
-    requires range { (2 ≤ b) × (b ≤ 16) × (x ≤ 4080) }
-    requires above { reciprocal ≡ 65536 / b + 1 }
-    ensures { result ≡ x % b }
-{
-    let quotient = (x as u32 * reciprocal as u32 >> 16) as u16;
-    (x - b as u16 * quotient) as u8
+    // The quotient is the high half of a product with the reciprocal.
+    fn add(&self, sum: u8, code: u8) -> u8
+        ensures { result ≡ plus (residues self.now.kind.b) sum (times (residues self.now.kind.b) self.now.factor code) }
+    {
+        let whole = sum as u16 + self.reduced as u16 * code as u16;
+        let quotient = (whole as u32 * self.reciprocal as u32 >> 16) as u16;
+        (whole - self.kind.b as u16 * quotient) as u8
+    }
 }
 
 // Two-power w: polynomials over bits of degree below w, for w from 2 to 4, bit 0 being the constant term.
@@ -134,7 +154,7 @@ impl TwoPower {
     pub fn new(w: u8) -> Result<TwoPower, Fault>
         ensures { MatchResult result (λ k. (2 ≤ w) × (w ≤ 4) × (k.w ≡ w)) (λ e. (refusal e ≡ refuse 1 0 0) × ((2 ≤ w) × (w ≤ 4) → ⊥)) }
     {
-        if w < 2 || w > 4 {
+        if !(2..=4).contains(&w) {
             return Err(Fault::KindRange);
         }
         Ok(TwoPower { w })
@@ -161,42 +181,33 @@ impl Kind for TwoPower {
 
     fn product(&self, a: u8, b: u8) -> u8 {
         let q = self.order();
-        reduced_product(self.w, a % q, b % q)
+        self.reduced_product(a % q, b % q)
     }
 
     fn add_multiple(&self, factor: u8, row: &[u8], sums: &mut [u8]) {
-        add_polynomials(self.w, factor, row, sums);
+        let multiples = PolynomialMultiples::new(*self, factor);
+        combine(row, sums, |sum, code| multiples.add(sum, code));
     }
 }
 
-// The product of two polynomials of degree below w, whose powers from w on are replaced by x + 1 times a lower power.
-fn reduced_product(w: u8, x: u8, y: u8) -> u8
-    requires range { (2 ≤ w) × (w ≤ 4) }
-    requires codes { (x < 2 ^ w) × (y < 2 ^ w) }
-    ensures { result ≡ (two_power w).mul x y }
-{
-    let whole = x * (y & 1) ^ x * (y & 2) ^ x * (y & 4) ^ x * (y & 8);
-    let high = whole >> w;
-    whole % (1 << w) ^ high ^ high << 1
-}
-
-// Adds the multiples of a row's codes to sums of polynomials, each multiple being read from the packed ones.
-fn add_polynomials(w: u8, factor: u8, row: &[u8], sums: &mut [u8])
-    requires { (2 ≤ w) × (w ≤ 4) }
-    ensures { sums.new ≡ added (two_power w) factor row.now sums.old }
-{
-    let multiples = multiples_of(w, factor % (1 << w));
-    for j in 0..sums.len().min(row.len()) {
-        sums[j] = sums[j] % (1 << w) ^ multiple_at(multiples, row[j] % (1 << w));
+impl TwoPower {
+    // The code that a byte stands for.
+    fn reduced(&self, a: u8) -> u8
+        ensures value { result ≡ a % 2 ^ self.now.w }
+        ensures small { result < 16 }
+    {
+        a % (1 << self.w)
     }
-}
 
-// The multiple of the code c in packed multiples.
-fn multiple_at(multiples: u64, c: u8) -> u8
-    requires { c < 16 }
-    ensures { result ≡ packed multiples c }
-{
-    ((multiples >> 4 * c) % 16) as u8
+    // The product of two codes: powers of the whole product from w on are replaced by x + 1 times a lower power.
+    fn reduced_product(&self, x: u8, y: u8) -> u8
+        requires { (x < 2 ^ self.now.w) × (y < 2 ^ self.now.w) }
+        ensures { result ≡ (two_power self.now.w).mul x y }
+    {
+        let whole = x * (y & 1) ^ x * (y & 2) ^ x * (y & 4) ^ x * (y & 8);
+        let high = whole >> self.w;
+        whole % (1 << self.w) ^ high ^ high << 1
+    }
 }
 
 // The packed multiples of 1, x, x^2 and x^3, for w = 2, 3 and 4: four bits for each code, code 0 in the lowest. One that has no code is 0.
@@ -211,13 +222,36 @@ const MULTIPLES: [[u64; 4]; 3] = [
     ],
 ];
 
-// The packed multiples of the factor f: the sum of those of its powers.
-fn multiples_of(w: u8, f: u8) -> u64
-    requires range { (2 ≤ w) × (w ≤ 4) }
-    requires code { f < 2 ^ w }
-    ensures { Multiples w f result }
-{
-    let powers = MULTIPLES[(w - 2) as usize];
-    let f = f as u64;
-    (f & 1) * powers[0] ^ (f >> 1 & 1) * powers[1] ^ (f >> 2 & 1) * powers[2] ^ (f >> 3) * powers[3]
+// The multiples of one factor, packed into a number.
+#[derive(Clone, Copy)]
+struct PolynomialMultiples {
+    kind: TwoPower,
+    factor: u8,
+    packed: u64,
+    ghost right: { Multiples kind.w (factor % 2 ^ kind.w) packed },
+}
+
+impl PolynomialMultiples {
+    // The sum of the packed multiples of the factor's powers.
+    fn new(kind: TwoPower, factor: u8) -> PolynomialMultiples
+        ensures { (result.kind.w ≡ kind.w) × (result.factor ≡ factor) }
+    {
+        let powers = MULTIPLES[(kind.w - 2) as usize];
+        let f = kind.reduced(factor) as u64;
+        let packed = (f & 1) * powers[0]
+            ^ (f >> 1 & 1) * powers[1]
+            ^ (f >> 2 & 1) * powers[2]
+            ^ (f >> 3) * powers[3];
+        PolynomialMultiples {
+            kind,
+            factor,
+            packed,
+        }
+    }
+
+    fn add(&self, sum: u8, code: u8) -> u8
+        ensures { result ≡ plus (two_power self.now.kind.w) sum (times (two_power self.now.kind.w) self.now.factor code) }
+    {
+        self.kind.reduced(sum) ^ ((self.packed >> 4 * self.kind.reduced(code)) % 16) as u8
+    }
 }

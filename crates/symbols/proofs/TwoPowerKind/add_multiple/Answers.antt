@@ -1,0 +1,9 @@
+use Rattle.std.proofs.Common.{rules}
+use Rattle.symbols.specs.Polynomials.{two_power}
+use Rattle.symbols.proofs.Rows.{added_by}
+use Rattle.symbols.proofs.TwoPowerKind.add_multiple.Goals as goal
+
+pub returns : goal.returns
+returns c =
+    added_by (two_power c.args.self.now.w) c.args.factor c.args.row.now c.args.sums.now c.combine.new.sums
+    c.combine.ensures.long (λ j h r. let e = c.combine.ensures.combined j h r in search rules) c.combine.ensures.stays

@@ -1,6 +1,0 @@
-use Rattle.symbols.specs.Ring.{residues}
-use Rattle.symbols.proofs.Rows.{Written}
-use Rattle.symbols.proofs.add_residues.Given as goal
-
-abbrev pub invariant-loop-j : goal.invariant-loop-j
-invariant-loop-j l = Written (residues l.b) l.factor l.row l.initial.sums l.j l.sums
