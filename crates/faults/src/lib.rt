@@ -69,24 +69,21 @@ impl Fault {
             Fault::ErrorCount => 4,
             Fault::MessageCount => 5,
             Fault::TrialMismatch => 6,
-            Fault::RowCode { index: _ } => 7,
+            Fault::RowCode { .. } => 7,
             Fault::ListShape => 8,
-            Fault::NoPermutation {
-                number: _,
-                position: _,
-            } => 9,
-            Fault::LightCodeword { message: _ } => 10,
-            Fault::NotKept { number: _, unit: _ } => 11,
-            Fault::Uncleared { places: _ } => 12,
+            Fault::NoPermutation { .. } => 9,
+            Fault::LightCodeword { .. } => 10,
+            Fault::NotKept { .. } => 11,
+            Fault::Uncleared { .. } => 12,
             Fault::SchemeMismatch => 13,
             Fault::WordLength => 14,
-            Fault::SymbolRange { index: _ } => 15,
+            Fault::SymbolRange { .. } => 15,
             Fault::TallyFull => 16,
             Fault::Lost => 17,
             Fault::FileShort => 18,
             Fault::FileMark => 19,
             Fault::FileVersion => 20,
-            Fault::FileField { byte: _ } => 21,
+            Fault::FileField { .. } => 21,
             Fault::FileLength => 22,
         }
     }
@@ -96,16 +93,13 @@ impl Fault {
         ensures { result ≡ (refusal self).first }
     {
         match self {
-            Fault::RowCode { index } => index as u64,
-            Fault::NoPermutation {
+            Fault::RowCode { index } | Fault::SymbolRange { index } => index as u64,
+            Fault::NoPermutation { number, .. } | Fault::NotKept { number, .. } => u64::from(
                 number,
-                position: _,
-            } => number as u64,
-            Fault::LightCodeword { message } => message as u64,
-            Fault::NotKept { number, unit: _ } => number as u64,
+            ),
+            Fault::LightCodeword { message } => u64::from(message),
             Fault::Uncleared { places } => places,
-            Fault::SymbolRange { index } => index as u64,
-            Fault::FileField { byte } => byte as u64,
+            Fault::FileField { byte } => u64::from(byte),
             _ => 0,
         }
     }
@@ -115,11 +109,8 @@ impl Fault {
         ensures { result ≡ (refusal self).second }
     {
         match self {
-            Fault::NoPermutation {
-                number: _,
-                position,
-            } => position as u64,
-            Fault::NotKept { number: _, unit } => unit as u64,
+            Fault::NoPermutation { position, .. } => u64::from(position),
+            Fault::NotKept { unit, .. } => u64::from(unit),
             _ => 0,
         }
     }
@@ -130,9 +121,12 @@ impl fmt::Display for Fault {
     ghost output = { λ f. Some (shown_as f) };
 
     fn fmt<W: fmt::Write>(&self, f: &mut fmt::Formatter<W>) -> fmt::Result {
-        let number = self.number();
-        let first = self.first();
-        let second = self.second();
-        write!(f, "refused {number} {first} {second}")
+        write!(
+            f,
+            "refused {} {} {}",
+            self.number(),
+            self.first(),
+            self.second()
+        )
     }
 }

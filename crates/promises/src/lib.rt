@@ -7,15 +7,13 @@ ghost use Rattle.promises.specs.Promise.{Law};
 ghost use Rattle.promises.specs.Settled.{Settled, OneTally};
 
 // Every code over every ring, with every list, that passes a trial keeps the promise.
-pub fn promise_stands() -> u8
+pub fn promise_stands()
     ensures { Law }
 {
-    0
 }
 
 // A call of correct has at most one outcome for what it is handed, and blocks have at most one tally.
-pub fn outcomes_are_single() -> u8
+pub fn outcomes_are_single()
     ensures { Settled × OneTally }
 {
-    0
 }

@@ -7,14 +7,11 @@ use Rattle.std.proofs.lemmas.List.FromFn.{length-map-range_with_len, get_or-map-
 use Rattle.symbols.specs.Ring.{RingRules, plus, times, total, added}
 use Rattle.symbols.proofs.Sums.{total_below, zero-times, plus-zero}
 use Rattle.codes.specs.Code.{Code, term}
+use Rattle.schemes.specs.Lent.{row}
 
 -- row i of k rows lies within them
 pub row_fits : (i k w size : ℕ) → i < k → size ≡ k * w → i * w + w ≤ size
 row_fits i k w size h e = omega (arith, suc-mul i w, mul-le (suc i) w k w h (omega arith))
-
--- row i of rows that are w codes wide
-abbrev pub row : List ℕ → ℕ → ℕ → List ℕ
-row rows w i = take ((i + 1) * w - i * w) (drop (i * w) rows)
 
 wide : (i w : ℕ) → (i + 1) * w - i * w ≡ w
 wide i w = omega (arith, add-mul i 1 w)

@@ -1,4 +1,5 @@
 -- How what the inner functions hold reads in the definitions.
+use Rattle.std.specs.Prelude.{ℕ, ◌+◌, ◌*◌, List, slice_range}
 use Rattle.symbols.specs.Ring.{Ring}
 use Rattle.codes.specs.Code.{code}
 use Rattle.codes.specs.Code as codes
@@ -7,3 +8,7 @@ use Rattle.schemes.specs.declared.scheme.words.Code.{Code}
 -- the code that is lent, by the rings of its kinds
 abbrev pub code_lent : {K : Type 0} → (K → Ring) → Code K → codes.Code
 code_lent ring c = code (ring c.kind.now) c.n c.k c.rows.now
+
+-- row i of rows that are w codes wide
+abbrev pub row : List ℕ → ℕ → ℕ → List ℕ
+row rows w i = slice_range rows (i * w) ((i + 1) * w)

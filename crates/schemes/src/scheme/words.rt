@@ -22,20 +22,29 @@ pub(crate) struct Code<'a, K> {
 }
 
 impl<'a, K: Kind> Code<'a, K> {
+    ghost use Rattle.symbols.specs.Ring.{added};
     ghost use Rattle.codes.specs.Code.{check, codeword, is_codeword, weight};
-    ghost use Rattle.schemes.specs.Lent.{code_lent};
+    ghost use Rattle.schemes.specs.Lent.{code_lent, row};
+
+    // Adds the multiples of row i to sums.
+    fn add_row(&self, i: usize, symbol: u8, sums: &mut Word)
+        requires { i < self.now.k }
+        ensures { sums.new ≡ added (K.ring self.now.kind.now) symbol (row self.now.rows.now (self.now.n - self.now.k) i) sums.old }
+    {
+        let width = self.n - self.k;
+        self.kind
+            .add_multiple(symbol, &self.rows[i * width..(i + 1) * width], sums);
+    }
 
     // The check symbols of a message, in the first n - k places.
     fn check_symbols(&self, message: &[u8]) -> Word
         requires { length message.now ≡ self.now.k }
         ensures { (j : ℕ) → j < self.now.n - self.now.k → slice_index result j ≡ check (code_lent K.ring self.now) message.now j }
     {
-        let width = self.n - self.k;
         let mut sums = [0u8; 64];
-        for i in 0..self.k {
-            if message[i] != 0 {
-                let row = &self.rows[i * width..(i + 1) * width];
-                self.kind.add_multiple(message[i], row, &mut sums);
+        for (i, symbol) in message.iter().enumerate() {
+            if *symbol != 0 {
+                self.add_row(i, *symbol, &mut sums);
             }
         }
         sums
