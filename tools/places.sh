@@ -4,7 +4,7 @@
 list=0
 [ "$1" = -l ] && { list=1; shift; }
 cd "${1:-.}" || exit 1
-sources=$(find crates -path '*/src/*.rt' | sort)
+sources=$(find crates -name out -prune -o -name target -prune -o -path '*/src/*.rt' -print | sort)
 
 point() { # name, pattern
     found=$(grep -nE "$2" $sources)

@@ -3,6 +3,9 @@ use Rattle.std.specs.Prelude.{ℕ, ◌+◌, ◌*◌, List, slice_range}
 use Rattle.symbols.specs.Ring.{Ring}
 use Rattle.codes.specs.Code.{code}
 use Rattle.codes.specs.Code as codes
+use Rattle.lists.specs.Meaning.{Meaning}
+use Rattle.promises.specs.Scheme as promises
+use Rattle.schemes.specs.declared.scheme.Handed.{Handed}
 use Rattle.schemes.specs.declared.scheme.words.Code.{Code}
 
 -- the code that is lent, by the rings of its kinds
@@ -12,3 +15,7 @@ code_lent ring c = code (ring c.kind.now) c.n c.k c.rows.now
 -- row i of rows that are w codes wide
 abbrev pub row : List ℕ → ℕ → ℕ → List ℕ
 row rows w i = slice_range rows (i * w) ((i + 1) * w)
+
+-- what a call is handed, by the rings of its kinds and the meanings of its lists
+abbrev pub handed_lent : {K L : Type 0} → (K → Ring) → (L → Meaning) → Handed K L → promises.Handed
+handed_lent ring meaning h = promises.handing (ring h.kind.now) h.rows.now (meaning h.list.now)

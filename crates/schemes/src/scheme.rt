@@ -29,6 +29,14 @@ pub struct Draft {
     ghost messages: { q ^ k ≤ 65536 },
 }
 
+// What a call is handed for reading: the kind, the list and the check rows of a scheme.
+#[derive(Drop)]
+struct Handed<'a, K, L> {
+    kind: &'a K,
+    list: &'a L,
+    rows: &'a [u8],
+}
+
 // How the blocks since the start or the last close fared.
 #[derive(Clone, Copy, PartialEq, Eq, Debug, Default)]
 pub struct Tally {

@@ -2,13 +2,14 @@
 ghost use Rattle.std.specs.Prelude.{◌≡◌, ℕ, ◌+◌, ◌-◌, ◌*◌, ◌<◌, ◌≤◌};
 ghost use Rattle.promises.specs.Scheme.{handing, none};
 ghost use Rattle.promises.specs.Calls.{objection, Encodes, Corrects, Closes, Withdraws, found, missed};
+ghost use Rattle.schemes.specs.Lent.{handed_lent};
 ghost use Rattle.schemes.specs.Told.{Answers, planned, kept, counts, tallied, encoding, correcting};
 
 use crate::scheme::attempting::Fitted;
 use crate::scheme::counts::first_excess;
 use crate::scheme::permuting::Listed;
 use crate::scheme::words::Code;
-use crate::scheme::{Count, Draft, Live, Tally};
+use crate::scheme::{Count, Draft, Handed, Live, Tally};
 use faults::Fault;
 use lists::Permutations;
 use symbols::Kind;
@@ -46,21 +47,19 @@ impl Live {
     // Refusals 13 to 15.
     fn check<K: Kind, L: Permutations>(
         &self,
-        kind: &K,
-        list: &L,
-        rows: &[u8],
+        handed: &Handed<K, L>,
         size: usize,
         input: &[u8],
         output: &[u8],
     ) -> Result<(), Fault>
-        ensures { Answers (objection (kept self.now) (handing (K.ring kind.now) rows.now (L.meaning list.now)) size input.now output.now) result (λ _. Unit {0}) }
+        ensures { Answers (objection (kept self.now) (handed_lent K.ring L.meaning handed.now) size input.now output.now) result (λ _. Unit {0}) }
     {
         let n = self.draft.n as usize;
         let k = self.draft.k as usize;
-        if kind.order() != self.draft.q
-            || list.length() != self.draft.n
-            || list.count() != self.m
-            || rows.len() != k * (n - k)
+        if handed.kind.order() != self.draft.q
+            || handed.list.length() != self.draft.n
+            || handed.list.count() != self.m
+            || handed.rows.len() != k * (n - k)
         {
             return Err(Fault::SchemeMismatch);
         }
@@ -93,7 +92,7 @@ impl Live {
     {
         let n = self.draft.n as usize;
         let k = self.draft.k as usize;
-        self.check(kind, list, rows, k, message, out)?;
+        self.check(&Handed { kind, list, rows }, k, message, out)?;
         let code = Code { kind, rows, n, k };
         out.copy_from_slice(&code.codeword(message)[..n]);
         Ok(())
@@ -113,7 +112,7 @@ impl Live {
     {
         let n = self.draft.n as usize;
         let k = self.draft.k as usize;
-        self.check(kind, list, rows, n, block, out)?;
+        self.check(&Handed { kind, list, rows }, n, block, out)?;
         if self.count.tally.blocks >= FULL {
             return Err(Fault::TallyFull);
         }
