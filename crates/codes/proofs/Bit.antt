@@ -1,9 +1,9 @@
 -- Masks against sets of places.
-use Rattle.std.proofs.Common.{◌≡◌, ℕ, zero, suc, ◌+◌, ◌-◌, ◌*◌, ◌/◌, ◌%◌, ◌^◌, ◌<◌, ◌≤◌, min, Bool, true, false, cond, eqb, ltb, List, [], ◌∷◌, ◌++◌, length, get_or, drop, sym, refl, ap, ◌∙◌, subst, mul_assoc, add-mul, one-mul, pow-suc, one-add, arith, eqb→eq, pow_pos, pow-add, ltb-false, le-ltb, lt-ltb}
-use native.Mathlib.Nat.{mod-mod}
+use Rattle.std.proofs.Common.{◌≡◌, ℕ, zero, suc, ◌+◌, ◌-◌, ◌*◌, ◌/◌, ◌%◌, ◌^◌, ◌<◌, ◌≤◌, min, Bool, true, false, cond, eqb, ltb, List, [], ◌∷◌, ◌++◌, length, get_or, take, drop, sym, refl, ap, ◌∙◌, subst, mul_assoc, add-mul, one-mul, pow-suc, one-add, arith, eqb→eq, pow_pos, pow-add, ltb-false, le-ltb, lt-ltb}
+use native.Mathlib.Nat.{mod-mod, pow-le-pow_right}
 use lib.Bits.{bit_and, bit_or, and_block, and_mask, and_shr, and_step, and_zero_r, or_shifted}
-use Rattle.std.proofs.lemmas.Nat.{shr_split, mod_below, field_of, one_shl}
-use Rattle.std.proofs.lemmas.List.{drop_more}
+use Rattle.std.proofs.lemmas.Nat.{shr_split, mod_below, field_of, one_shl, or_comm}
+use Rattle.std.proofs.lemmas.List.{take_more}
 use Rattle.codes.specs.Code.{Clears}
 use Rattle.codes.specs.Sets.{Rising, bits}
 use Rattle.codes.specs.Steps.{MaskOf}
@@ -80,20 +80,33 @@ place_at n f j [] h p = absurd (omega arith)
 place_at n f zero (x ∷ xs) h p = (p.1, p.2)
 place_at n f (suc j) (x ∷ xs) h p = place_at n (suc x) j xs (omega arith) p.2
 
+rising_take : (n f k : ℕ) (xs : List ℕ) → Rising n f xs → Rising n f (take k xs)
+rising_take n f zero xs h = tt
+rising_take n f (suc k) [] h = tt
+rising_take n f (suc k) (x ∷ xs) h = (h.0, h.1, rising_take n (suc x) k xs h.2)
+
+bits_pushed : (xs : List ℕ) (p : ℕ) → bits (xs ++ p ∷ []) ≡ bits xs + 2 ^ p
+bits_pushed [] p = omega arith
+bits_pushed (x ∷ xs) p = omega (arith, bits_pushed xs p)
+
+-- the places before the last one make less than it alone
+bits_low : (n f p : ℕ) (xs : List ℕ) → Rising n f (xs ++ p ∷ []) → bits xs + 2 ^ f ≤ 2 ^ p
+bits_low n f p [] h = omega (arith, pow-le-pow_right {n = 2} (omega arith) h.0)
+bits_low n f p (x ∷ xs) h =
+    omega (arith, bits_low n (suc x) p xs h.2, pow-suc 2 x, pow-le-pow_right {n = 2} (omega arith) h.0)
+
 -- one place more, as the code adds it
-pub bits_more : (n j : ℕ) (xs : List ℕ) → 0 < j → j ≤ length xs → n ≤ 64 → Rising n 0 xs → (s : ℕ) → s ≡ bits (drop j xs) → bit_or s ((1 * 2 ^ get_or xs (j - 1) 0) % 2 ^ 64) ≡ bits (drop (j - 1) xs)
-bits_more n j xs h k b p s e =
-    let x = get_or xs (j - 1) 0 in
-    let back : suc (j - 1) ≡ j = omega arith in
-    let at = place_at n 0 (j - 1) xs (omega arith) p in
-    let more : drop (j - 1) xs ≡ x ∷ drop j xs = drop_more xs (j - 1) 0 (omega arith) ∙ ap (λ (i : ℕ). x ∷ drop i xs) (omega arith) in
-    let a = shifted n (suc x) (drop j xs) (subst (λ (i : ℕ). Rising n (suc x) (drop i xs)) back at.1) in
-    let less : 2 ^ x < 2 ^ suc x = omega (arith, pow-suc 2 x, pow_pos x) in
-    ap (λ (y : ℕ). bit_or s y) (one_shl x 64 (omega (arith, at.0)))
-    ∙ ap (λ (y : ℕ). bit_or y (2 ^ x)) (e ∙ a.1)
-    ∙ or_shifted a.0 (suc x) (2 ^ x) less
-    ∙ ap (λ (y : ℕ). y + 2 ^ x) (sym a.1)
-    ∙ (omega (arith, ap bits more))
+pub bits_more : (n i : ℕ) (xs : List ℕ) → i < length xs → n ≤ 64 → Rising n 0 xs → (s : ℕ) → s ≡ bits (take i xs) → bit_or s ((1 * 2 ^ get_or xs i 0) % 2 ^ 64) ≡ bits (take (i + 1) xs)
+bits_more n i xs h b rising s e =
+    let x = get_or xs i 0 in
+    let more : take (i + 1) xs ≡ take i xs ++ x ∷ [] = take_more xs i 0 h in
+    let low = bits_low n 0 x (take i xs) (subst (Rising n 0) more (rising_take n 0 (i + 1) xs rising)) in
+    let below : s < 2 ^ x = omega (arith, low) in
+    ap (bit_or s) (one_shl x 64 (omega (arith, (place_at n 0 i xs h rising).0)))
+    ∙ or_comm s (2 ^ x)
+    ∙ ap (λ (y : ℕ). bit_or y s) (sym (one-mul (2 ^ x)))
+    ∙ or_shifted 1 x s below
+    ∙ (omega (arith, e, bits_pushed (take i xs) x, ap bits more))
 
 -- a bit of a mask with another is the lesser of their bits
 pub bit-and : (a b p : ℕ) → (bit_and a b / 2 ^ p) % 2 ≡ min ((a / 2 ^ p) % 2) ((b / 2 ^ p) % 2)

@@ -51,8 +51,8 @@ fn number_of(set: Places, t: usize, n: u8) -> u64
     ensures { result ≡ bits (take t set) }
 {
     let mut sum = 0u64;
-    for j in (0..t).rev() {
-        sum |= 1 << set[j];
+    for place in &set[..t] {
+        sum |= 1 << *place;
     }
     sum
 }
