@@ -19,6 +19,7 @@ const MOST: u16 = 512;
 const WIDEST: u8 = 64;
 
 // The targets of the first 64 positions under one permutation: the replies of a list, asked for at once.
+// No heap is allowed here, so they stand in a fixed array with their number beside it.
 #[derive(Clone, Copy)]
 pub struct Targets {
     n: u8,
@@ -252,6 +253,7 @@ fn power_times(g: u8, i: u16, p: u8, n: u8) -> u8
     let mut square = g as u16 % modulus;
     let mut product = p as u16 % modulus;
     let mut rest = i;
+    // The exponent is halved each time, so no iterator says it more plainly.
     while rest > 0 {
         if rest % 2 == 1 {
             product = product * square % modulus;

@@ -51,6 +51,7 @@ fn combine<F: Fn(u8, u8) -> u8>(row: &[u8], sums: &mut [u8], add: F)
     ensures combined { (j : ℕ) → j < length sums.old → j < length row.now → F.post add (slice_index sums.old j) (slice_index row.now j) (slice_index sums.new j) }
     ensures stays { (j : ℕ) → length row.now ≤ j → slice_index sums.new j ≡ slice_index sums.old j }
 {
+    // Not sums zipped with row: after such a loop no fact about the sums is left, so the proof does not close.
     let both = sums.len().min(row.len());
     for (j, sum) in sums[..both].iter_mut().enumerate() {
         *sum = add(*sum, row[j]);
@@ -191,7 +192,7 @@ impl Kind for TwoPower {
 }
 
 impl TwoPower {
-    // The code that a byte stands for.
+    // The code that a byte stands for. By the order in place of the shift, adding multiples was slower by a twentieth.
     fn reduced(&self, a: u8) -> u8
         ensures value { result ≡ a % 2 ^ self.now.w }
         ensures small { result < 16 }
