@@ -10,17 +10,14 @@ ghost use Rattle.codes.specs.Sets.{Enumerates};
 // Where code and permutations serve, some attempt succeeds exactly when a codeword is within t places, and its word is that one, the only one.
 pub fn serviceable_codes_decode()
     ensures { Decoding }
-{
-}
+{}
 
 // A search finds the first of what it looks for.
 pub fn searches_find_the_first()
     ensures { FindsFirst × FindsFirstWith }
-{
-}
+{}
 
 // The first set that fails a test, in the enumeration of the sets of places, is the first of all sets in dictionary order that does.
 pub fn sets_are_enumerated()
     ensures { Enumerates }
-{
-}
+{}

@@ -1,4 +1,4 @@
-// The kinds that scheme files name, as one kind.
+// The kinds that scheme files name, as one kind. Each call asks the variant: a `dyn Kind` could not be handed out, and there is no heap for a box.
 ghost use Rattle.std.specs.Prelude.{◌≡◌};
 ghost use Rattle.opening.specs.Held.{ring_held};
 ghost use Rattle.opening.specs.declared.kinds.FileKind.TheVariants.{Residues, TwoPower};

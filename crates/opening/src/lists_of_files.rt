@@ -1,4 +1,4 @@
-// The lists that scheme files name, as one list.
+// The lists that scheme files name, as one list. Each call asks the variant: a `dyn Permutations` could not be handed out, and there is no heap for a box.
 ghost use Rattle.std.specs.Prelude.{◌≡◌};
 ghost use Rattle.opening.specs.Held.{meaning_held, bounds_held};
 

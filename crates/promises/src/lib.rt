@@ -9,11 +9,9 @@ ghost use Rattle.promises.specs.Settled.{Settled, OneTally};
 // Every code over every ring, with every list, that passes a trial keeps the promise.
 pub fn promise_stands()
     ensures { Law }
-{
-}
+{}
 
 // A call of correct has at most one outcome for what it is handed, and blocks have at most one tally.
 pub fn outcomes_are_single()
     ensures { Settled × OneTally }
-{
-}
+{}

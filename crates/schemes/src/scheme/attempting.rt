@@ -87,7 +87,7 @@ impl<'c, 'l, K: Kind, L: Permutations> Fitted<'c, 'l, K, L> {
         })
     }
 
-    // The first attempt that succeeds.
+    // The first attempt that succeeds. The loop breaks with it, which a `for` cannot.
     fn first_success(&self, v: &[u8]) -> Option<Success>
         requires block { Symbols (K.ring self.now.code.kind.now).q self.now.code.n v.now }
         ensures { MatchOption result ((i : ℕ) → i < (L.meaning self.now.list.list.now).count → Succeeds (code_lent K.ring self.now.code) self.now.t ((L.meaning self.now.list.list.now).target i) v.now → ⊥)

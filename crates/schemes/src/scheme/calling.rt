@@ -118,7 +118,10 @@ impl Live {
         }
         let fitted = Fitted {
             code: Code { kind, rows, n, k },
-            list: Listed { list, n: self.draft.n },
+            list: Listed {
+                list,
+                n: self.draft.n,
+            },
             t: self.draft.t,
         };
         let Some((d, i)) = fitted.correct_into(block, out) else {

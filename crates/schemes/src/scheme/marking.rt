@@ -8,7 +8,7 @@ ghost use Rattle.codes.specs.Steps.{Last, Next, MaskOf, Missed, Skipped};
 use crate::scheme::permuting::Listed;
 use lists::Permutations;
 
-// The places of a set, of which there are at most five.
+// The places of a set, of which there are at most five: a small array by value, with t beside it, as each step answers a new set.
 type Places = [u8; 5];
 
 // The set with the places from number j to t replaced by those from `first` on.
@@ -140,7 +140,7 @@ impl<'a, L: Permutations> Listed<'a, L> {
         mask
     }
 
-    // The masks of all permutations of the list.
+    // The masks of all permutations of the list, with room for the most that a list has, since the product has no heap.
     fn masks(&self, k: u8) -> [u64; 512]
         ensures { (i : ℕ) → i < (L.meaning self.now.list.now).count → MaskOf self.now.n k ((L.meaning self.now.list.now).target i) (slice_index result i) }
     {

@@ -4,7 +4,7 @@ ghost use Rattle.std.specs.Prelude.{◌≡◌, ℕ, ◌+◌, ◌-◌, ◌*◌, �
 use crate::scheme::counts::weight;
 use symbols::Kind;
 
-// A word of at most 64 symbols, from place 0 on.
+// A word of at most 64 symbols, from place 0 on. It is an array with its length kept by the code, since the product has no heap.
 pub(crate) type Word = [u8; 64];
 
 // A code as it is handed over: a kind and check rows, for words of n places, the first k of them information places.
