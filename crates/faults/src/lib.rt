@@ -121,12 +121,7 @@ impl fmt::Display for Fault {
     ghost output = { λ f. Some (shown_as f) };
 
     fn fmt<W: fmt::Write>(&self, f: &mut fmt::Formatter<W>) -> fmt::Result {
-        write!(
-            f,
-            "refused {} {} {}",
-            self.number(),
-            self.first(),
-            self.second()
-        )
+        let (number, first, second) = (self.number(), self.first(), self.second());
+        write!(f, "refused {number} {first} {second}")
     }
 }
