@@ -76,6 +76,5 @@ module _ (S : Scheme) (h : Handed) (bytes : List ℕ) where
         lines = lines;
         session = s;
         whole = e;
-        promised = promise;
-        counts = subst (λ (vs : List (List ℕ)). Counting S h vs c) (session_blocks promise.accepts n calls c lines s) (promise.counts calls c (session_runs n calls c lines s) (session_faithful n calls c lines s));
+        counts = subst (λ (vs : List (List ℕ)). Counting S h vs c) (session_blocks promise.accepts n calls c lines s) (promise.counts calls c (session_runs n calls c lines s, session_faithful n calls c lines s));
       }

@@ -8,7 +8,7 @@ use Rattle.files.specs.Contents.{Contents}
 use Rattle.files.specs.Layout.{contents_of}
 use Rattle.files.specs.Limits.{file_refusal}
 use Rattle.promises.specs.Scheme.{Plan, plan, Handed, handing, Scheme, scheme}
-use Rattle.opening.specs.Opening.{ring_of, kind_refusal, meaning_of, list_refusal, handed_of, plan_of, live_refusal, opening_refusal, scheme_refusal}
+use Rattle.opening.specs.Opening.{ring_of, kind_refusal, meaning_of, list_refusal, handed_of, plan_of, live_refusal, contents_refusal, scheme_refusal}
 
 -- a file that is accepted and says x, with a kind of ring R and a list of meaning M that are not refused
 pub record Steps (file : List ℕ) (x : Contents) (R : Ring) (M : Meaning) : Type 0 where
@@ -34,7 +34,7 @@ module _ (file : List ℕ) (x : Contents) (R : Ring) (M : Meaning) (s : Steps fi
   pub scheme_is : scheme (plan x.n x.k x.t R.q) (handing R x.rows M) ≡ scheme (plan_of (contents_of file)) (handed_of (contents_of file))
   scheme_is = ap₂ scheme same_plan same_handed ∙ ap (λ (y : Contents). scheme (plan_of y) (handed_of y)) s.says
 
-  by_contents : opening_refusal x ≡ live_refusal (plan_of x) (handed_of x)
+  by_contents : contents_refusal x ≡ live_refusal (plan_of x) (handed_of x)
   by_contents =
       ap (λ (w : Option Refusal). option_or w (option_or (list_refusal x.n x.list) (live_refusal (plan_of x) (handed_of x)))) s.kind
       ∙ ap (λ (w : Option Refusal). option_or w (live_refusal (plan_of x) (handed_of x))) s.list
@@ -42,5 +42,5 @@ module _ (file : List ℕ) (x : Contents) (R : Ring) (M : Meaning) (s : Steps fi
   -- what going live is refused for is what the file is refused for
   pub refusal_is : (r : Option Refusal) → live_refusal (plan x.n x.k x.t R.q) (handing R x.rows M) ≡ r → scheme_refusal file ≡ r
   refusal_is r e =
-      ap (λ (w : Option Refusal). option_or w (opening_refusal (contents_of file))) s.accepted
-      ∙ ap opening_refusal (sym s.says) ∙ by_contents ∙ sym (ap₂ live_refusal same_plan same_handed) ∙ e
+      ap (λ (w : Option Refusal). option_or w (contents_refusal (contents_of file))) s.accepted
+      ∙ ap contents_refusal (sym s.says) ∙ by_contents ∙ sym (ap₂ live_refusal same_plan same_handed) ∙ e

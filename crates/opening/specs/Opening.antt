@@ -11,7 +11,7 @@ use Rattle.files.specs.Limits.{file_refusal}
 use Rattle.promises.specs.Scheme.{Plan, plan, Handed, handing, draft_refusal}
 use Rattle.promises.specs.Trial.{verdict}
 
--- the ring of a file's kind: residues b in family 0, else two_power w
+-- the ring of a file's kind: residues b in family 0, else two-power w
 abbrev pub ring_of : ℕ → ℕ → Ring
 ring_of family base = cond (family == 0) (residues base) (two_power base)
 
@@ -44,10 +44,10 @@ abbrev pub live_refusal : Plan → Handed → Option Refusal
 live_refusal D h = option_or (draft_refusal D.n D.k D.t D.q) (verdict D h)
 
 -- the first refusal on the way from contents to a live scheme: of the kind, the list, the draft, the trial
-abbrev pub opening_refusal : Contents → Option Refusal
-opening_refusal x =
+abbrev pub contents_refusal : Contents → Option Refusal
+contents_refusal x =
     option_or (kind_refusal x.family x.base) (option_or (list_refusal x.n x.list) (live_refusal (plan_of x) (handed_of x)))
 
 -- the first refusal on the way from a file's bytes to its live scheme: of the file, then of its contents
 abbrev pub scheme_refusal : List ℕ → Option Refusal
-scheme_refusal file = option_or (file_refusal file) (opening_refusal (contents_of file))
+scheme_refusal file = option_or (file_refusal file) (contents_refusal (contents_of file))
