@@ -1,16 +1,14 @@
 -- A call of correct on an opened file, as the call that the file itself means.
-use Rattle.std.proofs.Common.{◌≡◌, ℕ, ◌≤◌, List, Ok, Err, Result, sym, ap, ◌∙◌, subst, arith}
+use Rattle.std.proofs.Common.{◌≡◌, ℕ, ◌≤◌, List, Ok, Err, Result, ap, subst, arith}
 use Rattle.faults.specs.Refusal.{Refusal}
 use Rattle.codes.specs.Code.{distance}
-use Rattle.files.specs.Layout.{contents_of}
 use Rattle.promises.specs.Scheme.{Handed, Scheme, Counts, none}
 use Rattle.promises.specs.Calls.{Correcting, Corrects, refuses, finds, loses}
 use Rattle.promises.specs.Promise.{Promise}
 use Rattle.schemes.specs.Told.{kept, tallied}
-use Rattle.opening.specs.Opening.{handed_of}
 use Rattle.opening.specs.Opened.{handed_held, IsOpened}
 use Rattle.opening.specs.declared.opened.Opened.{Opened}
-use Rattle.host.specs.Hosted.{scheme_in, call_of, Called}
+use Rattle.host.specs.Hosted.{scheme_in, Called}
 
 abbrev pub call_by : Handed → List ℕ → List ℕ → Result (ℕ × ℕ) Refusal → List ℕ → Correcting
 call_by h block before answer after = record { handed = h; block = block; before = before; answer = answer; after = after }

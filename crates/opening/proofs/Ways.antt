@@ -7,7 +7,7 @@ use Rattle.lists.specs.Meaning.{Meaning}
 use Rattle.files.specs.Contents.{Contents}
 use Rattle.files.specs.Layout.{contents_of}
 use Rattle.files.specs.Limits.{file_refusal}
-use Rattle.promises.specs.Scheme.{Plan, plan, Handed, handing, Scheme, scheme}
+use Rattle.promises.specs.Scheme.{plan, handing, scheme}
 use Rattle.opening.specs.Opening.{ring_of, kind_refusal, meaning_of, list_refusal, handed_of, plan_of, live_refusal, contents_refusal, scheme_refusal}
 
 -- a file that is accepted and says x, with a kind of ring R and a list of meaning M that are not refused

@@ -1,5 +1,5 @@
 -- Check symbols that are summed row by row.
-use Rattle.std.proofs.Common.{◌≡◌, ℕ, suc, ◌+◌, ◌-◌, ◌*◌, ◌<◌, ◌≤◌, cond, ltb, List, length, get_or, take, drop, replicate, length-drop, add-mul, sym, refl, ap, ◌∙◌, ap₂, suc-mul, add-one, arith, lt-ltb}
+use Rattle.std.proofs.Common.{◌≡◌, ℕ, suc, ◌+◌, ◌-◌, ◌*◌, ◌<◌, ◌≤◌, cond, ltb, List, length, get_or, drop, replicate, length-drop, add-mul, sym, refl, ap, ◌∙◌, ap₂, suc-mul, add-one, arith, lt-ltb}
 use lib.ListN.{get_or-replicate}
 use Rattle.std.proofs.lemmas.Nat.{mul-le}
 use Rattle.std.proofs.lemmas.List.{length-take-le, get_or-take, get_or-drop}

@@ -192,7 +192,7 @@ impl Kind for TwoPower {
 }
 
 impl TwoPower {
-    // The code that a byte stands for. By the order in place of the shift, adding multiples was slower by a twentieth.
+    // The code that a byte stands for. It is a function of its own, since written out at its uses it made adding multiples slower by a twentieth.
     fn reduced(&self, a: u8) -> u8
         ensures value { result ≡ a % 2 ^ self.now.w }
         ensures small { result < 16 }
