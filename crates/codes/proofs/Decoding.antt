@@ -1,22 +1,17 @@
 -- The decoding theorem.
-use Rattle.std.proofs.Common.{◌≡◌, ℕ, ◌+◌, ◌-◌, ◌<◌, ◌≤◌, List, length, get_or, take, sym, refl, ap, ◌∙◌, subst, ⊎_elim, arith}
+use Rattle.std.proofs.Common.{◌≡◌, ℕ, ◌<◌, ◌≤◌, List, length, take, sym, refl, ap, ◌∙◌, subst, ⊎_elim, arith}
 use Rattle.std.proofs.lemmas.List.{ext_get_or, length-take-le, get_or-take}
 use Rattle.std.proofs.lemmas.Bool.{cases_eq}
 use Rattle.std.proofs.lemmas.List.FromFn.{length-map-range_with_len}
-use Rattle.codes.specs.Code.{Code, check, codeword, Codeword, distance, Permutation, moved, returned, candidate, Clears, Near}
+use Rattle.codes.specs.Code.{Code, codeword, Codeword, distance, Permutation, moved, returned, candidate, Clears, Near}
 use Rattle.codes.specs.Serviceable.{Serviceable, Decodes}
-use Rattle.codes.proofs.Words.{length-codeword, take-codeword, codeword-check}
+use Rattle.codes.proofs.Words.{length-codeword, take-codeword}
 use Rattle.codes.proofs.Places.{triangle, distance-sym, differing, differing_rising, length-differing, agree, onto, moved_at, returned_moved, zero_same, distance-zero}
 
 -- a codeword is that of its first k symbols
 pub codeword_of_itself : (C : Code) (c : List ℕ) → Codeword C c → codeword C (take C.k c) ≡ c
 codeword_of_itself C c (u, (long, below), e) =
     ap (λ w. codeword C (take C.k w)) e ∙ ap (codeword C) (take-codeword C u long) ∙ sym e
-
--- so its check symbols are those of its first k symbols
-pub check_self : (C : Code) (c : List ℕ) → Codeword C c → (j : ℕ) → j < C.n - C.k → get_or c (C.k + j) 0 ≡ check C (take C.k c) j
-check_self C c (u, (long, below), e) j h =
-    ap (λ w. get_or w (C.k + j) 0) e ∙ codeword-check C u long j h ∙ ap (λ x. check C x j) (sym (ap (take C.k) e ∙ take-codeword C u long))
 
 -- so codewords that agree on the information places are equal
 pub same_codeword : (C : Code) (c d : List ℕ) → Codeword C c → Codeword C d → take C.k c ≡ take C.k d → c ≡ d

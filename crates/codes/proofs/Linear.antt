@@ -1,13 +1,12 @@
 -- Codewords are linear in the message: the tests of a trial, on unit messages and on weights, serve all codewords.
 use Rattle.std.proofs.Common.{◌≡◌, ℕ, zero, suc, ◌+◌, ◌-◌, ◌*◌, ◌<◌, ◌≤◌, cond, eqb, List, [], map, length, get_or, take, sym, refl, ap, ◌∙◌, subst, ap₂, ⊎_elim, arith}
-use native.Mathlib.Nat.{sub-zero}
 use Rattle.std.specs.List.{range_with_len}
 use Rattle.std.proofs.lemmas.List.{ext_get_or, length-take-le, get_or-take}
 use Rattle.std.proofs.lemmas.List.FromFn.{length-map-range_with_len, get_or-map-range_with_len}
 use Rattle.std.proofs.lemmas.Bool.{cases_eq, cases_lt, eq-eqb, ne_eqb, cond-true, cond-false}
 use Rattle.symbols.specs.Ring.{Ring, RingRules, plus, minus, times, total}
 use Rattle.symbols.proofs.Sums.{total_below, total_same, total_pick, total-zero, total_swap, total-plus, times-total, total-times, times_assoc, times-one, times_zero, zero-times, times_below, plus_times, plus_below, plus_assoc, plus-minus, plus-zero, plus_comm, zero-plus, plus_cancel}
-use Rattle.codes.specs.Code.{Code, term, check, codeword, Codeword, Symbols, distance, Permutation, moved, returned, unit, weight, Clears, candidate}
+use Rattle.codes.specs.Code.{Code, term, check, codeword, Codeword, Symbols, distance, Permutation, moved, unit, weight, Clears, candidate}
 use Rattle.codes.specs.Sets.{Rising}
 use Rattle.codes.specs.Serviceable.{Serviceable}
 use Rattle.codes.proofs.Words.{length-codeword, codeword-message, codeword-check}
@@ -191,11 +190,6 @@ module _ (C : Code) (rules : RingRules C.ring) (fits : C.k ≤ C.n) where
           ext_get_or 0 u v (lu ∙ sym lv)
           (λ p h. let l : p < C.k = omega arith in
           sym (sums p l) ∙ ap (λ x. plus C.ring x (get_or v p 0)) (zeros p l) ∙ zero-plus C.ring rules (get_or v p 0) (bv p l))
-
--- the three words of an attempt, one after another
-pub candidate_from : (C : Code) (σ : ℕ → ℕ) (v word image out : List ℕ) → word ≡ moved C.n σ v → image ≡ codeword C (take (C.k - 0) word) → out ≡ returned C.n σ image → out ≡ candidate C σ v
-candidate_from C σ v word image out e f h =
-    h ∙ ap (returned C.n σ) (f ∙ ap (λ m. codeword C (take m word)) (sub-zero C.k) ∙ ap (λ w. codeword C (take C.k w)) e)
 
 -- the word of an attempt has n symbols below q
 pub candidate_symbols : (C : Code) → RingRules C.ring → C.k ≤ C.n → (σ : ℕ → ℕ) → Permutation C.n σ → (v : List ℕ) → Symbols C.ring.q C.n v

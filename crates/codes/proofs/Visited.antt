@@ -77,9 +77,6 @@ pub later_set : (n t : ℕ) (xs : List ℕ) (p z : ℕ) → SetOf n t (xs ++ (p 
 later_set n t xs p z set l b = (length_front xs z ∙ sym (length_front xs p) ∙ set.0, later_rising n 0 xs p z set.1 l b)
 
 -- from a set to a later one that begins as it does
-pub skipped_none : (masks : List ℕ) (m n t : ℕ) (xs : List ℕ) → SetOf n t xs → Skipped masks m n t xs xs
-skipped_none masks m n t xs set = record { set = set; later = inl refl; seen = λ here before. (here, before) }
-
 pub skipped_rest : (masks : List ℕ) (m n t : ℕ) (xs : List ℕ) (p z : ℕ) → SetOf n t (xs ++ (p ∷ [])) → p ≤ z → z < n
     → ((y : ℕ) → p ≤ y → y < n → Missed masks m (xs ++ (y ∷ []))) → Skipped masks m n t (xs ++ (p ∷ [])) (xs ++ (z ∷ []))
 skipped_rest masks m n t xs p z set l b all =

@@ -1,14 +1,8 @@
 -- The places of a codeword, and the step of a loop that writes a list place by place.
-use Rattle.std.proofs.Common.{◌≡◌, ℕ, ◌+◌, ◌-◌, ◌<◌, ◌≤◌, List, length, get_or, take, set, sym, ◌∙◌, arith, length-append, length-set}
-use Rattle.std.proofs.lemmas.List.{take_more_same, take-set, get_or-set_same, take_all, get_or_append_left, get_or-append_right, take_at}
+use Rattle.std.proofs.Common.{◌≡◌, ℕ, ◌+◌, ◌-◌, ◌<◌, ◌≤◌, List, length, get_or, take, sym, ◌∙◌, arith, length-append}
+use Rattle.std.proofs.lemmas.List.{take_all, get_or_append_left, get_or-append_right, take_at}
 use Rattle.std.proofs.lemmas.List.FromFn.{length-map-range_with_len, get_or-map-range_with_len}
 use Rattle.codes.specs.Code.{Code, check, codeword}
-
--- out agrees with d below i, and d's symbol is written at i
-pub write_more : (out d : List ℕ) (i y : ℕ) → i < length out → i < length d → take i out ≡ take i d → y ≡ get_or d i 0 → take (i + 1) (set out i y) ≡ take (i + 1) d
-write_more out d i y h h' e at =
-    let l : i < length (set out i y) = rw length-set h in
-    take_more_same (set out i y) d i 0 l h' (take-set out i y ∙ e) (get_or-set_same out i y 0 h ∙ at)
 
 pub write_all : (out d : List ℕ) (i : ℕ) → length out ≤ i → length d ≤ i → take i out ≡ take i d → out ≡ d
 write_all out d i h h' e = sym (take_all i out h) ∙ e ∙ take_all i d h'

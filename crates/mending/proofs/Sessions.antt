@@ -1,26 +1,15 @@
 -- What a session leaves: a run of calls with the trial's rows, kind and list, whose blocks are the well-formed ones of the input.
-use Rattle.std.proofs.Common.{◌≡◌, ℕ, zero, suc, ◌+◌, ◌*◌, ◌/◌, ◌%◌, ◌<◌, ◌≤◌, Bool, true, false, cond, not, ◌&&◌, eqb, ltb, List, [], ◌∷◌, ◌++◌, length, is_some, Some, None, Option, sym, refl, ap, ◌∙◌, subst, ap₂, arith}
+use Rattle.std.proofs.Common.{◌≡◌, ℕ, zero, suc, ◌+◌, Bool, true, false, cond, not, ◌&&◌, eqb, ltb, List, ◌∷◌, ◌++◌, length, is_some, Some, None, Option, sym, refl, ap, ◌∙◌, subst, ap₂, arith}
 use Rattle.std.specs.Option.{option_map}
 use Rattle.std.proofs.lemmas.Bool.{true≢false, eq-eqb}
-use Rattle.std.proofs.lemmas.Nat.{mul-le, div-add-mod'}
 use Rattle.faults.specs.Refusal.{refuse}
-use Rattle.promises.specs.Scheme.{Scheme, Handed, Counts, none}
+use Rattle.promises.specs.Scheme.{Scheme, Handed, Counts}
 use Rattle.promises.specs.Trial.{excess}
 use Rattle.promises.specs.Calls.{Correcting, Call, correct, fits, Runs}
 use Rattle.promises.specs.Promise.{Same, Faithful, blocks, formed, Counting, Promise}
 use Rattle.mending.specs.Input.{piece, pieces, whole, well_formed}
 use Rattle.mending.specs.Lines.{total}
 use Rattle.mending.specs.Printed.{Added, Session, Reported}
-
--- each block begins within the bytes
-pub piece_start : (i n size : ℕ) → i < size / n + cond (eqb (size % n) 0) 0 1 → i * n ≤ size
-piece_start i n size h =
-    let low : i ≤ size / n = few (eqb (size % n) 0) h in
-    omega (arith, mul-le i n (size / n) n low (omega arith), div-add-mod' size n)
-  where
-    few : (b : Bool) → i < size / n + cond b 0 1 → i ≤ size / n
-    few true l = omega arith
-    few false l = omega arith
 
 module _ (S : Scheme) (h : Handed) (bytes : List ℕ) where
   pub session_runs : (i : ℕ) (calls : List Call) (c : Counts) (text : List ℕ) → Session S h bytes i calls c text → Runs S calls c
@@ -58,9 +47,6 @@ module _ (S : Scheme) (h : Handed) (bytes : List ℕ) where
       ap (blocks S) e
       ∙ ap (λ b. cond b (x.block ∷ blocks S past) (blocks S past)) (formed_is fit x added.handed added.room (length (blocks S past)))
       ∙ ap₂ (λ (v : List ℕ) (vs : List (List ℕ)). cond (whole S.q S.n v && ltb (length vs) 1000000) (v ∷ vs) vs) added.block ih
-
-  pub session_none : Session S h bytes 0 [] none []
-  session_none = (refl, refl, refl)
 
   pub session_more : (i : ℕ) (calls : List Call) (c after : Counts) (before text : List ℕ) → Session S h bytes i calls c before → (added : Added S h (i + 1) (piece S.n bytes i) c after before text)
       → Session S h bytes (i + 1) (correct added.call ∷ calls) after text
