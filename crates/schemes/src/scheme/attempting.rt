@@ -97,7 +97,7 @@ impl<'c, 'l, K: Kind, L: Permutations> Fitted<'c, 'l, K, L> {
     {
         let m = self.list.list.count();
         let mut i = 0;
-        let found = loop {
+        loop {
             if i >= m {
                 break None;
             }
@@ -105,8 +105,7 @@ impl<'c, 'l, K: Kind, L: Permutations> Fitted<'c, 'l, K, L> {
                 break Some(success);
             }
             i += 1;
-        };
-        found
+        }
     }
 
     // The distance and the number of the first attempt that succeeds, with its word in `out`; where none does, `out` stays.
