@@ -1,18 +1,10 @@
-use Rattle.std.proofs.Common.{◌≡◌, ℕ, ◌<◌, ◌≢◌, length, get_or, set, Some, None, Option, sym, ap, ◌∙◌, subst, arith, length-set, below_more}
+use Rattle.std.proofs.Common.{◌≡◌, ℕ, ◌<◌, ◌≢◌, length, get_or, set, Some, sym, ap, ◌∙◌, subst, arith, length-set, below_more}
 use Rattle.std.proofs.lemmas.List.{get_or-set_same, get_or-set_other}
 use Rattle.lists.specs.Told.{told}
 use Rattle.schemes.proofs.scheme.attempting.bring_back.Goals as goal
 
 held : (a b : ℕ) → Some a ≡ Some b → a ≡ b
 held a b e = cc
-
-never : (a : ℕ) → ◌≡◌ {A = Option ℕ} None (Some a) → ⊥
-never a e = cc
-
-pub unreachable-requires : goal.unreachable-requires
-unreachable-requires c =
-    let there = c.requires.within c.loop-p.p (omega arith) in
-    never there.0 (c.in_default.ensures ∙ there.1)
 
 pub bounds-word-to : goal.bounds-word-to
 bounds-word-to c =
