@@ -11,20 +11,28 @@ fn corrected(file: &[u8], block: &[u8], out: &mut [u8]) -> Result<(u8, u16), Fau
     Opened::new(file)?.correct(block, out)
 }
 
-// The refusal of a file, with no block: a live scheme then refuses by its length.
-fn refused(file: &[u8]) -> Option<Fault> {
-    corrected(file, &[], &mut []).err()
+// A refusal by number and places; all 0 stands for none.
+fn told(answer: Result<(u8, u16), Fault>) -> (u8, u64, u64) {
+    answer.err().map_or(
+        (0, 0, 0),
+        |fault| (fault.number(), fault.first(), fault.second()),
+    )
+}
+
+// The refusal of a file, with no block: a live scheme then refuses by 14.
+fn refused(file: &[u8]) -> (u8, u64, u64) {
+    told(corrected(file, &[], &mut []))
 }
 
 #[test]
 fn trials(rt: HostRuntime) -> Result<(), Fail> {
     let worked = worked_schemes();
-    assert_eq!(rt; refused(&worked.three_shifts), Some(Fault::WordLength));
-    assert_eq!(rt; refused(&worked.two_shifts), Some(Fault::Uncleared { places: 1 }));
-    assert_eq!(rt; refused(&worked.two_errors), Some(Fault::LightCodeword { message: 1 }));
-    assert_eq!(rt; refused(&worked.swapped), Some(Fault::NotKept { number: 1, unit: 0 }));
-    assert_eq!(rt; refused(&worked.polynomials), Some(Fault::WordLength));
-    assert_eq!(rt; refused(&worked.counting), Some(Fault::LightCodeword { message: 2 }));
+    assert_eq!(rt; refused(&worked.three_shifts), (14, 0, 0));
+    assert_eq!(rt; refused(&worked.two_shifts), (12, 1, 0));
+    assert_eq!(rt; refused(&worked.two_errors), (10, 1, 0));
+    assert_eq!(rt; refused(&worked.swapped), (11, 1, 0));
+    assert_eq!(rt; refused(&worked.polynomials), (14, 0, 0));
+    assert_eq!(rt; refused(&worked.counting), (10, 2, 0));
     let sixteen = TwoPower::new(4)?;
     let (n, k, t, _) = worked.draft;
     assert!(rt; Draft::new(n, k, t, &sixteen).is_ok());
@@ -49,9 +57,7 @@ fn corrections(rt: HostRuntime) -> Result<(), Fail> {
     );
     assert_eq!(rt; four, worked.ternary_mended);
     let mut out = [9u8; 4];
-    let Err(fault) = corrected(&worked.repeated, &worked.halved, &mut out) else {
-        return Err(Fail::new("the block was not lost"));
-    };
-    assert_eq!(rt; (fault.number(), out), (17, [9u8; 4]));
+    let lost = corrected(&worked.repeated, &worked.halved, &mut out);
+    assert_eq!(rt; (told(lost), out), ((17, 0, 0), [9u8; 4]));
     Ok(())
 }
