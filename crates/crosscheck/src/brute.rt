@@ -1,37 +1,71 @@
 // All codewords of a code, one after another, and the nearest of them to a block. Nothing of the product's decoder is used here.
+ghost use Rattle.std.specs.Prelude.{◌<◌, ◌≤◌};
+
 use std::alloc::{AllocError, Global};
+use std::fmt;
 use symbols::Kind;
+
+// The numbers of a code: n places, the first k of them information places, up to t errors.
+#[derive(Clone, Copy)]
+pub struct Size {
+    pub n: u8,
+    pub k: u8,
+    pub t: u8,
+    ghost longest: { n ≤ 64 },
+    ghost order: { k < n },
+    ghost errors: { t ≤ 5 },
+}
+
+impl fmt::Display for Size {
+    fn fmt<W: fmt::Write>(&self, f: &mut fmt::Formatter<W>) -> fmt::Result {
+        write!(f, "({},{},{})", self.n, self.k, self.t)
+    }
+}
 
 // The codewords of a code of n places.
 #[derive(Drop)]
 pub struct Book {
     n: u8,
     words: Vec<u8>,
+    ghost some: { 0 < n },
 }
 
 // The next message of symbols below q, the first symbol first to rise.
 fn step(message: &mut [u8], q: u8) {
-    let mut rising = true;
     for symbol in message.iter_mut() {
-        if rising {
-            let next = symbol.wrapping_add(1);
-            rising = next >= q;
-            *symbol = if rising { 0 } else { next };
+        *symbol = symbol.wrapping_add(1);
+        if *symbol < q {
+            return;
         }
+        *symbol = 0;
     }
 }
 
-// Check symbol j of a message.
-fn check_symbol<K: Kind>(kind: &K, rows: &[u8], width: usize, message: &[u8], j: usize) -> u8 {
-    let mut sum = 0;
-    let mut at = j;
-    for u in message {
-        if let Some(code) = rows.get(at) {
-            sum = kind.sum(kind.product(*u, *code), sum);
-        }
-        at = at.wrapping_add(width);
+// Check symbol j of a message, for check rows of the given width.
+fn check_symbol<K: Kind>(kind: &K, rows: &[u8], width: usize, message: &[u8], j: usize) -> u8
+    requires { 0 < width }
+{
+    rows.iter()
+        .skip(j)
+        .step_by(width)
+        .zip(message)
+        .fold(0, |sum, (code, u)| kind.sum(kind.product(*u, *code), sum))
+}
+
+// Appends the check symbols of a message.
+fn put_checks<K: Kind>(
+    words: &mut Vec<u8>,
+    kind: &K,
+    rows: &[u8],
+    width: usize,
+    message: &[u8],
+) -> Result<(), AllocError>
+    requires { 0 < width }
+{
+    for j in 0..width {
+        words.push(check_symbol(kind, rows, width, message, j))?;
     }
-    sum
+    Ok(())
 }
 
 impl Book {
@@ -39,101 +73,74 @@ impl Book {
     pub fn new<K: Kind>(
         heap: Global,
         kind: &K,
-        n: u8,
-        k: u8,
+        size: Size,
         rows: &[u8],
     ) -> Result<Book, AllocError> {
         let mut words = Vec::new(heap);
-        let mut message = vec![in heap; 0u8; k as usize]?;
-        let mut count = 1u32;
-        for _ in 0..k {
-            count = count.saturating_mul(kind.order() as u32);
+        let mut message = vec![in heap; 0u8; size.k as usize]?;
+        let width = (size.n - size.k) as usize;
+        for _ in 0..(kind.order() as u32).saturating_pow(size.k as u32) {
+            words.extend_from_slice(&message)?;
+            put_checks(&mut words, kind, rows, width, &message)?;
+            step(&mut message, kind.order());
         }
-        let width = n.saturating_sub(k) as usize;
-        for _ in 0..count {
-            words.extend_from_slice(message.as_slice())?;
-            for j in 0..width {
-                words.push(check_symbol(kind, rows, width, message.as_slice(), j))?;
-            }
-            step(message.as_mut_slice(), kind.order());
-        }
-        Ok(Book { n, words })
+        Ok(Book { n: size.n, words })
     }
 
-    pub fn places(&self) -> u8 {
-        self.n
-    }
-
-    // The codeword of message number i, or nothing past the last.
-    pub fn word(&self, i: usize) -> &[u8] {
+    // A codeword drawn by a number, or none if there are no codewords.
+    pub fn drawn(&self, number: usize) -> Option<&[u8]> {
         let n = self.n as usize;
-        let words = self.words.as_slice();
-        let from = i.saturating_mul(n).min(words.len());
-        let to = from.saturating_add(n).min(words.len());
-        if from <= to && to <= words.len() {
-            &words[from..to]
-        } else {
-            &words[0..0]
-        }
+        let number = number.checked_rem(self.words.len() / n)?;
+        self.words.chunks_exact(n).nth(number)
     }
 
-    // How many codewords there are.
-    pub fn count(&self) -> usize {
-        if self.n == 0 {
-            0
-        } else {
-            self.words.len() / self.n as usize
-        }
-    }
-
-    // The number of the codeword nearest to a block, and its distance.
-    pub fn nearest(&self, block: &[u8]) -> (usize, usize) {
-        let mut best = usize::MAX;
-        let mut at = 0;
-        for i in 0..self.count() {
-            let d = differing(self.word(i), block);
-            if d < best {
-                best = d;
-                at = i;
-            }
-        }
-        (at, best)
+    // The codeword nearest to a block, and its distance: of several, the first.
+    pub fn nearest(&self, block: &[u8]) -> Option<(usize, &[u8])> {
+        self.words
+            .chunks_exact(self.n as usize)
+            .map(|word| (differing(word, block), word))
+            .min_by_key(|(distance, _)| *distance)
     }
 }
 
 // The number of places where two words differ.
-pub fn differing(a: &[u8], b: &[u8]) -> usize {
-    let mut d = 0usize;
-    for (x, y) in a.iter().zip(b.iter()) {
-        if *x != *y {
-            d = d.saturating_add(1);
-        }
-    }
-    d
+fn differing(a: &[u8], b: &[u8]) -> usize {
+    a.iter().zip(b).filter(|(x, y)| x != y).count()
 }
 
 // x to a power, reduced by a generator of the given degree.
-fn power_of_x(power: u8, generator: u32, degree: u8) -> u32 {
+fn power_of_x(power: u8, generator: u32, degree: u8) -> u32
+    requires { degree < 32 }
+{
     let mut x = 1u32;
     for _ in 0..power {
-        x = x << 1;
-        if x >> (degree % 32) & 1 == 1 {
+        x <<= 1;
+        if x >> degree & 1 == 1 {
             x ^= generator;
         }
     }
     x
 }
 
+// Appends the bits of a check row, the coefficient of the highest power first.
+fn put_bits(rows: &mut Vec<u8>, row: u32, degree: u8) -> Result<(), AllocError>
+    requires { degree ≤ 32 }
+{
+    for power in (0..degree).rev() {
+        rows.push((row >> power & 1) as u8)?;
+    }
+    Ok(())
+}
+
 // The check rows of a cyclic code whose place p is the coefficient of the power n - 1 - p: row i is x to the power n - 1 - i, reduced.
-pub fn cyclic_rows(heap: Global, n: u8, k: u8, generator: u32) -> Result<Vec<u8>, AllocError> {
-    let degree = n.saturating_sub(k);
+pub fn cyclic_rows(heap: Global, size: Size, generator: u32) -> Result<Vec<u8>, AllocError>
+    requires { size.n < 32 }
+{
+    let degree = size.n - size.k;
     let mut rows = Vec::new(heap);
-    for i in 0..k {
-        let rest = power_of_x(n.saturating_sub(1).saturating_sub(i), generator, degree);
-        for j in 0..degree {
-            let power = degree.saturating_sub(1).saturating_sub(j);
-            rows.push((rest >> (power % 32) & 1) as u8)?;
-        }
+    for i in 0..size.k {
+        let row = power_of_x(size.n - 1 - i, generator, degree);
+        put_bits(&mut rows, row, degree)?;
     }
     Ok(rows)
 }

@@ -1,78 +1,167 @@
 // Both decoders on the same blocks.
-use crate::brute::{Book, differing};
+use crate::brute::{Book, Size};
+use faults::Fault;
 use lists::Permutations;
 use schemes::Live;
+use std::fmt;
 use symbols::Kind;
 
+// The blocks that are compared.
+#[derive(Clone, Copy)]
+pub enum Blocks {
+    // Every block of symbols.
+    Every,
+    // Codewords of bits with errors: random patterns, and every one of at most t errors where the code has at most 23 places.
+    Patterns,
+}
+
 // What was compared: blocks with at most t errors, blocks with more, lost ones, and those on which the decoders differ.
+// Where every block is compared, all are counted as near.
 #[derive(Clone, Copy)]
 pub struct Found {
-    pub near: u32,
-    pub far: u32,
-    pub lost: u32,
-    pub different: u32,
+    blocks: Blocks,
+    near: u32,
+    far: u32,
+    lost: u32,
+    different: u32,
 }
 
-const NOTHING: Found = Found {
-    near: 0,
-    far: 0,
-    lost: 0,
-    different: 0,
-};
+impl fmt::Display for Found {
+    fn fmt<W: fmt::Write>(&self, f: &mut fmt::Formatter<W>) -> fmt::Result {
+        match self.blocks {
+            Blocks::Every => write!(f, "{} blocks", self.near)?,
+            Blocks::Patterns => {
+                write!(f, "{} patterns up to t, {} beyond", self.near, self.far)?;
+            }
+        }
+        write!(f, ", {} lost, {} different", self.lost, self.different)
+    }
+}
 
-// Whether both decoders make the same of a block; the product's answer stands in `out`.
-fn agree<K: Kind, L: Permutations>(
-    live: &mut Live,
-    kind: &K,
-    list: &L,
-    rows: &[u8],
-    book: &Book,
-    t: u8,
-    block: &[u8],
-    out: &mut [u8],
-    found: &mut Found,
-) -> bool {
-    let (at, d) = book.nearest(block);
-    match live.correct(kind, list, rows, block, out) {
-        Ok((distance, _)) => d <= t as usize
-            && distance as usize == d
-            && out.len() == block.len()
-            && differing(book.word(at), out) == 0,
-        Err(fault) => {
-            found.lost = found.lost.saturating_add(1);
-            fault.number() == 17 && d > t as usize
+// A live scheme with what its calls read, the codewords of its code, and what was found so far.
+#[derive(Drop)]
+pub struct Comparison<'a, K, L> {
+    live: Live,
+    kind: &'a K,
+    list: &'a L,
+    rows: &'a [u8],
+    size: Size,
+    book: Book,
+    found: Found,
+}
+
+impl<'a, K: Kind, L: Permutations> Comparison<'a, K, L> {
+    pub fn new(
+        live: Live,
+        kind: &'a K,
+        list: &'a L,
+        rows: &'a [u8],
+        size: Size,
+        book: Book,
+    ) -> Comparison<'a, K, L> {
+        let found = Found {
+            blocks: Blocks::Every,
+            near: 0,
+            far: 0,
+            lost: 0,
+            different: 0,
+        };
+        Comparison {
+            live,
+            kind,
+            list,
+            rows,
+            size,
+            book,
+            found,
         }
     }
-}
 
-// Compares one block of n symbols.
-fn one<K: Kind, L: Permutations>(
-    live: &mut Live,
-    kind: &K,
-    list: &L,
-    rows: &[u8],
-    book: &Book,
-    t: u8,
-    block: &[u8; 64],
-    found: &mut Found,
-) {
-    let n = book.places() as usize;
-    if n > 64 {
-        return;
+    // Compares the blocks, and answers what was found.
+    pub fn run(&mut self, blocks: Blocks) -> Found {
+        self.found.blocks = blocks;
+        match blocks {
+            Blocks::Every => self.every_block(),
+            Blocks::Patterns => {
+                self.samples();
+                self.every_pattern();
+            }
+        }
+        self.found
     }
-    let mut out = [0u8; 64];
-    if !agree(
-        live,
-        kind,
-        list,
-        rows,
-        book,
-        t,
-        &block[0..n],
-        &mut out[0..n],
-        found,
-    ) {
-        found.different = found.different.saturating_add(1);
+
+    // Whether both decoders make the same of a block: the codeword at most t places away, or none.
+    fn agree(&mut self, block: &[u8], out: &mut [u8]) -> bool {
+        let t = self.size.t as usize;
+        let answer = self
+            .live
+            .correct(self.kind, self.list, self.rows, block, out);
+        let nearest = self.book.nearest(block).filter(|(d, _)| *d <= t);
+        match (answer, nearest) {
+            (Ok((distance, _)), Some((d, word))) => distance as usize == d && *out == *word,
+            (Err(Fault::Lost), None) => {
+                self.found.lost = self.found.lost.saturating_add(1);
+                true
+            }
+            _ => false,
+        }
+    }
+
+    // Compares one block, the first n symbols of the given ones.
+    fn one(&mut self, symbols: &[u8; 64]) {
+        let n = self.size.n as usize;
+        let mut out = [0u8; 64];
+        if !self.agree(&symbols[..n], &mut out[..n]) {
+            self.found.different = self.found.different.saturating_add(1);
+        }
+    }
+
+    // Every block of symbols, at most 100,000.
+    fn every_block(&mut self) {
+        let q = self.kind.order();
+        let count = (q as u32).saturating_pow(self.size.n as u32);
+        for x in 0..count.min(100_000) {
+            self.one(&numbered(x, q));
+            self.found.near = self.found.near.saturating_add(1);
+        }
+    }
+
+    // A codeword of bits drawn by a random number, with the places of a mask turned.
+    fn pattern(&mut self, seed: u32, mask: u32) {
+        let block = self
+            .book
+            .drawn((seed >> 4) as usize)
+            .map_or([0; 64], |word| turned(word, mask));
+        self.one(&block);
+        if mask.count_ones() <= self.size.t as u32 {
+            self.found.near = self.found.near.saturating_add(1);
+        } else {
+            self.found.far = self.found.far.saturating_add(1);
+        }
+    }
+
+    // Every pattern of at most t errors, if the code has at most 23 places.
+    fn every_pattern(&mut self) {
+        if self.size.n > 23 {
+            return;
+        }
+        let t = self.size.t as u32;
+        let mut seed = 1u32;
+        for mask in (0..1u32 << self.size.n).filter(|mask| mask.count_ones() <= t) {
+            seed = random(seed);
+            self.pattern(seed, mask);
+        }
+    }
+
+    // Random patterns: 100 of at most t errors, then 100 of about t + 1 to t + 4.
+    fn samples(&mut self) {
+        let mut seed = 1u32;
+        for i in 0..200u32 {
+            let more = if i < 100 { 0 } else { 1 + (i % 4) as u8 };
+            let (mask, next) = scattered(seed, self.size.n, self.size.t + more);
+            seed = random(next);
+            self.pattern(seed, mask);
+        }
     }
 }
 
@@ -80,7 +169,7 @@ fn one<K: Kind, L: Permutations>(
 fn turned(word: &[u8], mask: u32) -> [u8; 64] {
     let mut block = [0u8; 64];
     let mut rest = mask;
-    for (place, symbol) in block.iter_mut().zip(word.iter()) {
+    for (place, symbol) in block.iter_mut().zip(word) {
         *place = *symbol ^ (rest & 1) as u8;
         rest >>= 1;
     }
@@ -101,96 +190,6 @@ fn scattered(seed: u32, n: u8, errors: u8) -> (u32, u32) {
         mask |= 1 << ((next >> 8) % (n.max(1) as u32) % 32);
     }
     (mask, next)
-}
-
-// A codeword drawn by a random number, with the places of a mask turned.
-fn drawn(book: &Book, seed: u32, mask: u32) -> [u8; 64] {
-    turned(book.word((seed >> 4) as usize % book.count().max(1)), mask)
-}
-
-// Every pattern of at most t errors on a binary code.
-fn every_pattern<K: Kind, L: Permutations>(
-    live: &mut Live,
-    kind: &K,
-    list: &L,
-    rows: &[u8],
-    book: &Book,
-    t: u8,
-    found: &mut Found,
-) {
-    let mut seed = 1u32;
-    for mask in 0..1u32 << (book.places() % 32) {
-        if mask.count_ones() <= t as u32 {
-            seed = random(seed);
-            let block = drawn(book, seed, mask);
-            one(live, kind, list, rows, book, t, &block, found);
-            found.near = found.near.saturating_add(1);
-        }
-    }
-}
-
-// Random patterns on a binary code: 100 of at most t errors, then 100 of about t + 1 to t + 4.
-fn samples<K: Kind, L: Permutations>(
-    live: &mut Live,
-    kind: &K,
-    list: &L,
-    rows: &[u8],
-    book: &Book,
-    t: u8,
-    found: &mut Found,
-) {
-    let mut seed = 1u32;
-    for i in 0..200u32 {
-        let more = if i < 100 { 0 } else { 1 + (i % 4) as u8 };
-        let (mask, next) = scattered(seed, book.places(), t.saturating_add(more));
-        seed = random(next);
-        let block = drawn(book, seed, mask);
-        one(live, kind, list, rows, book, t, &block, found);
-        if mask.count_ones() <= t as u32 {
-            found.near = found.near.saturating_add(1);
-        } else {
-            found.far = found.far.saturating_add(1);
-        }
-    }
-}
-
-// Error patterns on a binary code: random ones, and every one of at most t errors where the code has at most 23 places.
-pub fn patterns<K: Kind, L: Permutations>(
-    live: &mut Live,
-    kind: &K,
-    list: &L,
-    rows: &[u8],
-    book: &Book,
-    t: u8,
-) -> Found {
-    let mut found = NOTHING;
-    samples(live, kind, list, rows, book, t, &mut found);
-    if book.places() <= 23 {
-        every_pattern(live, kind, list, rows, book, t, &mut found);
-    }
-    found
-}
-
-// Every block of n symbols below q.
-pub fn every_block<K: Kind, L: Permutations>(
-    live: &mut Live,
-    kind: &K,
-    list: &L,
-    rows: &[u8],
-    book: &Book,
-    t: u8,
-) -> Found {
-    let mut found = NOTHING;
-    let q = kind.order();
-    let mut count = 1u32;
-    for _ in 0..book.places() {
-        count = count.saturating_mul(q as u32);
-    }
-    for x in 0..count.min(100_000) {
-        one(live, kind, list, rows, book, t, &numbered(x, q), &mut found);
-        found.near = found.near.saturating_add(1);
-    }
-    found
 }
 
 // The symbols of a number in base q, the lowest first.

@@ -3,8 +3,10 @@
 
 #![tactic(auto)]
 
-use brute::{Book, cyclic_rows};
-use compare::{every_block, patterns};
+ghost use Rattle.std.specs.Prelude.{◌<◌, ◌≤◌};
+
+use brute::{Book, Size, cyclic_rows};
+use compare::{Blocks, Comparison};
 use faults::Fault;
 use foreign_kinds::Triangular;
 use foreign_lists::Reversed;
@@ -42,85 +44,68 @@ impl From<io::Error> for Failure {
     }
 }
 
-// A binary cyclic code: its generator has the coefficient of the i-th power as bit i.
+// A binary cyclic code of fewer than 32 places: its generator has the coefficient of the i-th power as bit i.
 #[derive(Clone, Copy)]
 struct Cyclic {
-    n: u8,
-    k: u8,
-    t: u8,
+    size: Size,
     generator: u32,
     powers: u8,
+    ghost bits: { size.n < 32 },
 }
 
-fn cyclic_code(n: u8, k: u8, t: u8, generator: u32, powers: u8) -> Cyclic {
+fn cyclic_code(n: u8, k: u8, t: u8, generator: u32, powers: u8) -> Cyclic
+    requires { (k < n) × (n < 32) × (t ≤ 5) }
+{
     Cyclic {
-        n,
-        k,
-        t,
+        size: Size { n, k, t },
         generator,
         powers,
     }
 }
 
-// Compares both decoders on a binary cyclic code, and prints a line.
-fn compare_cyclic(rt: &HostRuntime, code: Cyclic) -> Result<(), Failure> {
-    let heap = rt.alloc();
-    let kind = Residues::new(2)?;
-    let list = Multiplier::new(Shifts::new(code.n, 1, code.n as u16), 2, code.powers);
-    let rows = cyclic_rows(heap, code.n, code.k, code.generator)?;
-    let n = code.n;
-    let k = code.k;
-    let t = code.t;
-    let powers = code.powers;
-    match Draft::new(n, k, t, &kind)?.trial(&kind, &list, rows.as_slice()) {
-        Ok(mut live) => {
-            let book = Book::new(heap, &kind, n, k, rows.as_slice())?;
-            let found = patterns(&mut live, &kind, &list, rows.as_slice(), &book, t);
-            let near = found.near;
-            let far = found.far;
-            let lost = found.lost;
-            let different = found.different;
-            println!(rt;
-                "({n},{k},{t}) with {powers} powers: live, {near} patterns up to t, {far} beyond, {lost} lost, {different} different"
-            )?;
+// Compares both decoders on blocks of a code, and prints a line.
+fn compare_code<K: Kind, L: Permutations>(
+    rt: &HostRuntime,
+    label: &str,
+    size: Size,
+    kind: &K,
+    list: &L,
+    rows: &[u8],
+    blocks: Blocks,
+) -> Result<(), Failure> {
+    match Draft::new(size.n, size.k, size.t, kind)?.trial(kind, list, rows) {
+        Ok(live) => {
+            let book = Book::new(rt.alloc(), kind, size, rows)?;
+            let found = Comparison::new(live, kind, list, rows, size, book).run(blocks);
+            println!(rt; "{label}: live, {found}")?;
         }
-        Err(rejected) => {
-            let fault = rejected.fault;
-            println!(rt; "({n},{k},{t}) with {powers} powers: {fault}")?;
-        }
+        Err(rejected) => println!(rt; "{label}: {}", rejected.fault)?,
     }
-    drop(list);
     Ok(())
 }
 
-// Compares both decoders on every block of a small code, given by n, k and t, and prints a line.
+// A binary cyclic code, with all shifts and the powers of multiplier 2.
+fn compare_cyclic(rt: &HostRuntime, code: Cyclic) -> Result<(), Failure> {
+    let heap = rt.alloc();
+    let kind = Residues::new(2)?;
+    let size = code.size;
+    let list = Multiplier::new(Shifts::new(size.n, 1, size.n as u16), 2, code.powers);
+    let rows = cyclic_rows(heap, size, code.generator)?;
+    let label = format!(in heap; "{size} with {} powers", code.powers)?;
+    compare_code(rt, &label, size, &kind, &list, &rows, Blocks::Patterns)
+}
+
+// Every block of a small code.
 fn compare_small<K: Kind, L: Permutations>(
     rt: &HostRuntime,
     name: &str,
     kind: &K,
     list: &L,
-    size: (u8, u8, u8),
+    size: Size,
     rows: &[u8],
 ) -> Result<(), Failure> {
-    let (n, k, t) = size;
-    let heap = rt.alloc();
-    match Draft::new(n, k, t, kind)?.trial(kind, list, rows) {
-        Ok(mut live) => {
-            let book = Book::new(heap, kind, n, k, rows)?;
-            let found = every_block(&mut live, kind, list, rows, &book, t);
-            let near = found.near;
-            let lost = found.lost;
-            let different = found.different;
-            println!(rt;
-                "{name} ({n},{k},{t}): live, {near} blocks, {lost} lost, {different} different"
-            )?;
-        }
-        Err(rejected) => {
-            let fault = rejected.fault;
-            println!(rt; "{name} ({n},{k},{t}): {fault}")?;
-        }
-    }
-    Ok(())
+    let label = format!(in rt.alloc(); "{name} {size}")?;
+    compare_code(rt, &label, size, kind, list, rows, Blocks::Every)
 }
 
 // The binary cyclic codes, with all shifts and the powers of multiplier 2.
@@ -158,13 +143,62 @@ fn run_small(rt: &HostRuntime) -> Result<(), Failure> {
     let bits3 = TwoPower::new(3)?;
     let bits4 = TwoPower::new(4)?;
     let matrices = Triangular::new();
-    compare_small(rt, "residues 3", &mod3, &table, (4, 2, 1), &[2, 2, 2, 1])?;
-    compare_small(rt, "residues 4", &mod4, &four, (4, 1, 1), &[3, 1, 3])?;
-    compare_small(rt, "residues 5", &mod5, &five, (5, 1, 2), &[1, 1, 1, 1])?;
-    compare_small(rt, "two-power 2", &bits2, &three, (3, 1, 1), &[2, 3])?;
-    compare_small(rt, "two-power 3", &bits3, &four, (4, 1, 1), &[1, 1, 1])?;
-    compare_small(rt, "two-power 4", &bits4, &three, (3, 1, 1), &[6, 7])?;
-    compare_small(rt, "matrices", &matrices, &reversed, (4, 1, 1), &[3, 1, 3])
+    compare_small(
+        rt,
+        "residues 3",
+        &mod3,
+        &table,
+        Size { n: 4, k: 2, t: 1 },
+        &[2, 2, 2, 1],
+    )?;
+    compare_small(
+        rt,
+        "residues 4",
+        &mod4,
+        &four,
+        Size { n: 4, k: 1, t: 1 },
+        &[3, 1, 3],
+    )?;
+    compare_small(
+        rt,
+        "residues 5",
+        &mod5,
+        &five,
+        Size { n: 5, k: 1, t: 2 },
+        &[1, 1, 1, 1],
+    )?;
+    compare_small(
+        rt,
+        "two-power 2",
+        &bits2,
+        &three,
+        Size { n: 3, k: 1, t: 1 },
+        &[2, 3],
+    )?;
+    compare_small(
+        rt,
+        "two-power 3",
+        &bits3,
+        &four,
+        Size { n: 4, k: 1, t: 1 },
+        &[1, 1, 1],
+    )?;
+    compare_small(
+        rt,
+        "two-power 4",
+        &bits4,
+        &three,
+        Size { n: 3, k: 1, t: 1 },
+        &[6, 7],
+    )?;
+    compare_small(
+        rt,
+        "matrices",
+        &matrices,
+        &reversed,
+        Size { n: 4, k: 1, t: 1 },
+        &[3, 1, 3],
+    )
 }
 
 // Compares the decoders on all schemes.

@@ -84,12 +84,6 @@ mod tests {
         }
     }
 
-    // The same for the first bytes of a file.
-    fn reading_first(file: &[u8], size: usize) -> (u8, u64) {
-        file.get(..size)
-            .map_or((0, 0), |part| refused(files::read(part)))
-    }
-
     #[test]
     fn lengths(rt: HostRuntime) {
         let mut file = [0; 27];
@@ -100,7 +94,8 @@ mod tests {
                 26 => 0,
                 _ => 22,
             };
-            assert_eq!(rt; reading_first(&file, size), (number, 0));
+            assert!(rt; size <= file.len());
+            assert_eq!(rt; refused(files::read(&file[..size])), (number, 0));
         }
     }
 
@@ -205,23 +200,19 @@ mod tests {
                 form: Form::Shifts { step: 1 },
             };
             let mut out = [0xaau8; 27];
-            if size <= out.len() {
-                assert_eq!(rt;
-                    refused(files::write(&scheme, &mut out[..size])),
-                    (number, first)
-                );
-                assert!(rt; (number == 0) == (out[0] == 0x50));
-                assert!(rt; (number == 0) == (out[25] == 1));
-                assert!(rt; out[26] == 0xaa);
-            }
+            assert!(rt; size <= out.len());
+            assert_eq!(rt;
+                refused(files::write(&scheme, &mut out[..size])),
+                (number, first)
+            );
+            assert!(rt; (number == 0) == (out[0] == 0x50));
+            assert!(rt; (number == 0) == (out[25] == 1));
+            assert!(rt; out[26] == 0xaa);
         }
     }
 
-    // Writes two rows of three with a table that has the first bytes of `bytes`.
-    fn writing_table(base: u8, bytes: &[u8], size: usize, out: &mut [u8]) -> (u8, u64) {
-        let Some(table) = bytes.get(..size) else {
-            return (0, 0);
-        };
+    // Writes two rows of three with a table.
+    fn write_table(base: u8, table: &[u8], out: &mut [u8]) -> (u8, u64) {
         let scheme = SchemeFile {
             family: Family::TwoPower,
             base,
@@ -237,6 +228,7 @@ mod tests {
 
     #[test]
     fn refused_tables(rt: HostRuntime) {
+        let bytes = [0u8, 1, 2, 1, 2, 0, 7, 7];
         // w and the table's length, then the refusal's number and first place.
         let cases = [
             (4, 6, 0, 0),
@@ -247,8 +239,11 @@ mod tests {
         ];
         for (base, size, number, first) in cases {
             let mut out = [0xaau8; 21];
-            let found = writing_table(base, &[0, 1, 2, 1, 2, 0, 7, 7], size, &mut out);
-            assert_eq!(rt; found, (number, first));
+            assert!(rt; size <= bytes.len());
+            assert_eq!(rt;
+                write_table(base, &bytes[..size], &mut out),
+                (number, first)
+            );
             assert!(rt; (number == 0) == (out[0] == 0x50));
         }
     }
@@ -258,9 +253,7 @@ mod tests {
         let head = [0x50, 0x44, 0x53, 0, 1, 0, 2, 64, 16, 5, 0, 2, 0];
         let mut file = Vec::new(rt.alloc());
         file.extend_from_slice(&head)?;
-        for i in 0..33536u32 {
-            file.push((i % 251) as u8)?;
-        }
+        file.extend((0..33536u32).map(|i| (i % 251) as u8))?;
         let scheme = files::read(&file)?;
         assert_eq!(rt; scheme.rows.len(), 768);
         let Form::Table(part) = scheme.form else {

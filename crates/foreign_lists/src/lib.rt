@@ -37,13 +37,13 @@ impl Permutations for Reversed {
     }
 
     fn target(&self, i: u16, p: u8) -> Option<u8> {
-        if i >= 2 || p >= self.n {
+        if p >= self.n {
             return None;
         }
-        if i == 0 {
-            Some(p)
-        } else {
-            Some(self.n - 1 - p)
+        match i {
+            0 => Some(p),
+            1 => Some(self.n - 1 - p),
+            _ => None,
         }
     }
 }
@@ -113,10 +113,7 @@ mod tests {
 
     // 0 for a table, or the number of the refusal.
     fn refusal(n: u8, part: &[u8]) -> u8 {
-        match Table::new(n, part) {
-            Ok(_) => 0,
-            Err(fault) => fault.number(),
-        }
+        Table::new(n, part).err().map_or(0, |fault| fault.number())
     }
 
     #[test]
@@ -138,7 +135,7 @@ mod tests {
         ];
         for (n, size, due) in cases {
             assert!(rt; size <= bytes.len());
-            assert_eq!(rt; refusal(n, &bytes[0..size]), due);
+            assert_eq!(rt; refusal(n, &bytes[..size]), due);
         }
     }
 
@@ -172,7 +169,7 @@ mod tests {
         assert_eq!(rt; most.count(), 512);
         assert_eq!(rt; most.target(511, 0), Some(7));
         assert_eq!(rt; most.target(512, 0), None);
-        let none = Table::new(5, &bytes[0..0])?;
+        let none = Table::new(5, &[])?;
         assert_eq!(rt; none.length(), 5);
         assert_eq!(rt; none.count(), 0);
         assert_eq!(rt; none.target(0, 0), None);

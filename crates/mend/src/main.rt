@@ -8,24 +8,12 @@ use std::io;
 use std::io::{Read, Write};
 
 // At most so many bytes of the input are read.
-const LIMIT: usize = 49_935;
+const LIMIT: u64 = 49_935;
 
 fn main(rt: HostRuntime) -> io::Result<()> {
     let heap = rt.alloc();
-    let mut input = vec![in heap; 0u8; LIMIT]?;
-    let mut stdin = rt.stdin();
-    let mut len = 0;
-    for _ in 0..LIMIT {
-        if len >= input.len() {
-            break;
-        }
-        let came = stdin.read(&mut input[len..])?;
-        if came == 0 {
-            break;
-        }
-        len += came;
-    }
-    input.truncate(len);
+    let mut input = Vec::new(heap);
+    rt.stdin().take(LIMIT).read_to_end(&mut input)?;
     let text = answer(heap, input.as_slice())?;
     rt.stdout().write_all(text.as_slice())
 }

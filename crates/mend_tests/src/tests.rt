@@ -14,8 +14,7 @@ fn shows(
     expected: &[u8],
 ) -> Result<(), Fail> {
     let mut input = Vec::new(heap);
-    input.push((file.len() / 256 % 256) as u8)?;
-    input.push((file.len() % 256) as u8)?;
+    input.extend_from_slice(&u16::try_from(file.len())?.to_be_bytes())?;
     input.extend_from_slice(file)?;
     input.extend_from_slice(blocks)?;
     let text = answer(heap, input.as_slice())?;
@@ -26,8 +25,8 @@ fn shows(
 // The worked file with one byte changed.
 fn changed(at: usize, byte: u8) -> [u8; 26] {
     let mut file = HAMMING;
-    if at < 26 {
-        file[at] = byte;
+    if let Some(place) = file.get_mut(at) {
+        *place = byte;
     }
     file
 }
@@ -35,13 +34,11 @@ fn changed(at: usize, byte: u8) -> [u8; 26] {
 #[test]
 fn inputs_without_a_file(rt: HostRuntime) -> Result<(), Fail> {
     let heap = rt.alloc();
-    let none: [u8; 0] = [];
-    let empty = answer(heap, &none)?;
-    assert!(rt; empty.as_slice() == b"refused 18 0 0\n".as_slice());
-    let one = answer(heap, &[0])?;
-    assert!(rt; one.as_slice() == b"refused 18 0 0\n".as_slice());
-    let cut = answer(heap, &[0, 26, 0x50, 0x44, 0x53])?;
-    assert!(rt; cut.as_slice() == b"refused 18 0 0\n".as_slice());
+    let inputs: [&[u8]; 3] = [&[], &[0], &[0, 26, 0x50, 0x44, 0x53]];
+    for input in inputs {
+        let text = answer(heap, input)?;
+        assert!(rt; text.as_slice() == b"refused 18 0 0\n".as_slice());
+    }
     Ok(())
 }
 

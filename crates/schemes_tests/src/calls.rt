@@ -1,41 +1,13 @@
 // Encode, correct, close and withdraw on live schemes: answers, buffers and tallies.
 use crate::HAMMING;
-use faults::Fault;
+use crate::common::{live, told};
 use foreign_kinds::Triangular;
 use foreign_lists::Reversed;
-use lists::{Permutations, Shifts, Table};
-use schemes::{Draft, Live, Tally};
+use lists::{Shifts, Table};
+use schemes::Tally;
+use std::array;
 use std::test::Fail;
-use symbols::{Kind, Residues};
-
-fn told(fault: Fault) -> (u8, u64, u64) {
-    (fault.number(), fault.first(), fault.second())
-}
-
-fn tally(blocks: u32, clean: u32, mended: u32, lost: u32, symbols: u32) -> Tally {
-    Tally {
-        blocks,
-        clean,
-        mended,
-        lost,
-        symbols,
-    }
-}
-
-// A live scheme, or what refused it.
-fn live<K: Kind, L: Permutations>(
-    kind: &K,
-    list: &L,
-    n: u8,
-    k: u8,
-    t: u8,
-    rows: &[u8],
-) -> Result<Live, Fault> {
-    match Draft::new(n, k, t, kind)?.trial(kind, list, rows) {
-        Ok(live) => Ok(live),
-        Err(rejected) => Err(rejected.fault),
-    }
-}
+use symbols::Residues;
 
 #[test]
 fn corrections(rt: HostRuntime) -> Result<(), Fail> {
@@ -52,11 +24,20 @@ fn corrections(rt: HostRuntime) -> Result<(), Fail> {
         scheme.correct(&bits, &shifts, &HAMMING, &[0, 1, 1, 0, 1, 0, 0], &mut out)?,
         (0, 0)
     );
-    assert_eq!(rt; scheme.close(), tally(2, 1, 1, 0, 1));
+    assert_eq!(rt;
+        scheme.close(),
+        Tally {
+            blocks: 2,
+            clean: 1,
+            mended: 1,
+            symbols: 1,
+            ..Tally::default()
+        }
+    );
     scheme.encode(&bits, &shifts, &HAMMING, &[1, 0, 1, 1], &mut out)?;
     assert_eq!(rt; out, [1, 0, 1, 1, 1, 0, 0]);
     let (_, last) = scheme.withdraw();
-    assert_eq!(rt; last, tally(0, 0, 0, 0, 0));
+    assert_eq!(rt; last, Tally::default());
     let ternary = [0u8, 1, 2, 3, 1, 2, 0, 3, 2, 0, 1, 3];
     let table = Table::new(4, &ternary)?;
     let threes = Residues::new(3)?;
@@ -77,45 +58,58 @@ fn refusals_leave_buffer_and_scheme(rt: HostRuntime) -> Result<(), Fail> {
     let rows = [1u8, 1, 1];
     let mut scheme = live(&bits, &shifts, 4, 1, 1, &rows)?;
     let mut out = [7u8; 4];
-    let short = [1u8, 1, 0];
     let answers = [
-        scheme.correct(&Residues::new(3)?, &shifts, &rows, &[1, 1, 0, 0], &mut out),
-        scheme.correct(&bits, &Shifts::new(4, 1, 3), &rows, &[1, 1, 0, 0], &mut out),
-        scheme.correct(&bits, &Shifts::new(5, 1, 2), &rows, &[1, 1, 0, 0], &mut out),
-        scheme.correct(&bits, &shifts, &[1, 1], &[1, 2, 0, 0], &mut out),
-        scheme.correct(&bits, &shifts, &rows, &short, &mut out),
-        scheme.correct(&bits, &shifts, &rows, &[1, 1, 2, 3], &mut out),
+        (
+            scheme.correct(&Residues::new(3)?, &shifts, &rows, &[1, 1, 0, 0], &mut out),
+            (13, 0, 0),
+        ),
+        (
+            scheme.correct(&bits, &Shifts::new(4, 1, 3), &rows, &[1, 1, 0, 0], &mut out),
+            (13, 0, 0),
+        ),
+        (
+            scheme.correct(&bits, &Shifts::new(5, 1, 2), &rows, &[1, 1, 0, 0], &mut out),
+            (13, 0, 0),
+        ),
+        (
+            scheme.correct(&bits, &shifts, &[1, 1], &[1, 2, 0, 0], &mut out),
+            (13, 0, 0),
+        ),
+        (
+            scheme.correct(&bits, &shifts, &rows, &[1, 1, 0], &mut out),
+            (14, 0, 0),
+        ),
+        (
+            scheme.correct(&bits, &shifts, &rows, &[1, 1, 2, 3], &mut out),
+            (15, 2, 0),
+        ),
     ];
-    let expected: [(u8, u64, u64); 6] = [
-        (13, 0, 0),
-        (13, 0, 0),
-        (13, 0, 0),
-        (13, 0, 0),
-        (14, 0, 0),
-        (15, 2, 0),
-    ];
-    for (answer, refusal) in answers.iter().zip(expected.iter()) {
-        let Err(fault) = answer else {
-            return Err(Fail::new("a call was let through"));
-        };
-        assert_eq!(rt; told(*fault), *refusal);
+    for (answer, refusal) in answers {
+        assert_eq!(rt; told(answer), refusal);
     }
     let mut long = [7u8; 5];
-    let Err(fault) = scheme.correct(&bits, &shifts, &rows, &[1, 1, 0, 0], &mut long) else {
-        return Err(Fail::new("a long output was let through"));
-    };
-    assert_eq!(rt; told(fault), (14, 0, 0));
-    assert_eq!(rt; scheme.close(), tally(0, 0, 0, 0, 0));
-    let Err(fault) = scheme.correct(&bits, &shifts, &rows, &[1, 1, 0, 0], &mut out) else {
-        return Err(Fail::new("the block was not lost"));
-    };
-    assert_eq!(rt; told(fault), (17, 0, 0));
-    let Err(fault) = scheme.encode(&bits, &shifts, &rows, &[2], &mut out) else {
-        return Err(Fail::new("a message was let through"));
-    };
-    assert_eq!(rt; told(fault), (15, 0, 0));
+    assert_eq!(rt;
+        told(scheme.correct(&bits, &shifts, &rows, &[1, 1, 0, 0], &mut long)),
+        (14, 0, 0)
+    );
+    assert_eq!(rt; scheme.close(), Tally::default());
+    assert_eq!(rt;
+        told(scheme.correct(&bits, &shifts, &rows, &[1, 1, 0, 0], &mut out)),
+        (17, 0, 0)
+    );
+    assert_eq!(rt;
+        told(scheme.encode(&bits, &shifts, &rows, &[2], &mut out)),
+        (15, 0, 0)
+    );
     assert_eq!(rt; (out, long), ([7u8; 4], [7u8; 5]));
-    assert_eq!(rt; scheme.close(), tally(1, 0, 0, 1, 0));
+    assert_eq!(rt;
+        scheme.close(),
+        Tally {
+            blocks: 1,
+            lost: 1,
+            ..Tally::default()
+        }
+    );
     Ok(())
 }
 
@@ -133,11 +127,20 @@ fn another_list_after_the_trial(rt: HostRuntime) -> Result<(), Fail> {
         (1, 1)
     );
     assert_eq!(rt; out, [1u8; 4]);
-    let Err(fault) = scheme.correct(&bits, &other, &rows, &[0, 1, 1, 1], &mut out) else {
-        return Err(Fail::new("no permutation of the list mends this block"));
-    };
-    assert_eq!(rt; told(fault), (17, 0, 0));
-    assert_eq!(rt; scheme.close(), tally(2, 0, 1, 1, 1));
+    assert_eq!(rt;
+        told(scheme.correct(&bits, &other, &rows, &[0, 1, 1, 1], &mut out)),
+        (17, 0, 0)
+    );
+    assert_eq!(rt;
+        scheme.close(),
+        Tally {
+            blocks: 2,
+            mended: 1,
+            lost: 1,
+            symbols: 1,
+            ..Tally::default()
+        }
+    );
     Ok(())
 }
 
@@ -161,7 +164,15 @@ fn kind_and_list_from_outside(rt: HostRuntime) -> Result<(), Fail> {
         (1, 0)
     );
     assert_eq!(rt; out, [7, 5, 7, 5]);
-    assert_eq!(rt; scheme.close(), tally(2, 0, 2, 0, 2));
+    assert_eq!(rt;
+        scheme.close(),
+        Tally {
+            blocks: 2,
+            mended: 2,
+            symbols: 2,
+            ..Tally::default()
+        }
+    );
     Ok(())
 }
 
@@ -177,34 +188,40 @@ fn full_tally(rt: HostRuntime) -> Result<(), Fail> {
         let _ = scheme.correct(&bits, &shifts, &rows, &[0, 0, 0], &mut out);
     }
     let mut last = [5u8; 3];
-    let Err(fault) = scheme.correct(&bits, &shifts, &rows, &[1, 1, 0], &mut last) else {
-        return Err(Fail::new("the tally was not full"));
-    };
-    assert_eq!(rt; told(fault), (16, 0, 0));
+    assert_eq!(rt;
+        told(scheme.correct(&bits, &shifts, &rows, &[1, 1, 0], &mut last)),
+        (16, 0, 0)
+    );
     assert_eq!(rt; last, [5u8; 3]);
     assert_eq!(rt;
         scheme.close(),
-        tally(1_000_000, 500_000, 500_000, 0, 500_000)
+        Tally {
+            blocks: 1_000_000,
+            clean: 500_000,
+            mended: 500_000,
+            symbols: 500_000,
+            ..Tally::default()
+        }
     );
     assert_eq!(rt;
         scheme.correct(&bits, &shifts, &rows, &[1, 1, 0], &mut last)?,
         (1, 0)
     );
-    assert_eq!(rt; scheme.close(), tally(1, 0, 1, 0, 1));
+    assert_eq!(rt;
+        scheme.close(),
+        Tally {
+            blocks: 1,
+            mended: 1,
+            symbols: 1,
+            ..Tally::default()
+        }
+    );
     Ok(())
 }
 
 // Seven bits of a number, the lowest first.
 fn bits_of(x: u32) -> [u8; 7] {
-    [
-        (x & 1) as u8,
-        (x >> 1 & 1) as u8,
-        (x >> 2 & 1) as u8,
-        (x >> 3 & 1) as u8,
-        (x >> 4 & 1) as u8,
-        (x >> 5 & 1) as u8,
-        (x >> 6 & 1) as u8,
-    ]
+    array::from_fn(|i| (x >> i & 1) as u8)
 }
 
 // A run of blocks from a simple generator, with counts kept beside it: of 7 bits, 16 words are codewords and all others are one place off.
@@ -225,13 +242,7 @@ fn long_run(rt: HostRuntime) -> Result<(), Fail> {
             word[6] = 2;
             refused = refused.wrapping_add(1);
         }
-        scheme.encode(
-            &bits,
-            &shifts,
-            &HAMMING,
-            &[word[0], word[1], word[2], word[3]],
-            &mut out,
-        )?;
+        scheme.encode(&bits, &shifts, &HAMMING, &word[..4], &mut out)?;
         if out == word {
             clean = clean.wrapping_add(1);
         }
@@ -241,7 +252,13 @@ fn long_run(rt: HostRuntime) -> Result<(), Fail> {
     assert!(rt; clean > 400 && refused > 50);
     assert_eq!(rt;
         scheme.close(),
-        tally(clean.wrapping_add(mended), clean, mended, 0, mended)
+        Tally {
+            blocks: clean.wrapping_add(mended),
+            clean,
+            mended,
+            symbols: mended,
+            ..Tally::default()
+        }
     );
     Ok(())
 }

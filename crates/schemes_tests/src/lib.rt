@@ -5,6 +5,8 @@
 #[cfg(test)]
 mod calls;
 #[cfg(test)]
+mod common;
+#[cfg(test)]
 mod trials;
 
 // The binary code with 7 places, 4 of them information places: its check rows 110, 011, 111 and 101.

@@ -1,6 +1,6 @@
 // Drafts and trials: what goes live, and each refusal from 3 to 12 with its places.
 use crate::HAMMING;
-use faults::Fault;
+use crate::common::{LIVE, Told, live, told};
 use foreign_kinds::Triangular;
 use foreign_lists::Reversed;
 use lists::{Permutations, Shifts, Table};
@@ -8,31 +8,12 @@ use schemes::Draft;
 use std::test::Fail;
 use symbols::{Kind, Residues, TwoPower};
 
-// A refusal as its number and places; all 0 stands for a live scheme.
-type Told = (u8, u64, u64);
-
-const LIVE: Told = (0, 0, 0);
-
-fn told(fault: Fault) -> Told {
-    (fault.number(), fault.first(), fault.second())
-}
-
 fn drafted<K: Kind>(kind: &K, n: u8, k: u8, t: u8) -> Told {
-    match Draft::new(n, k, t, kind) {
-        Ok(_) => LIVE,
-        Err(fault) => told(fault),
-    }
+    told(Draft::new(n, k, t, kind))
 }
 
 fn tried<K: Kind, L: Permutations>(kind: &K, list: &L, n: u8, k: u8, t: u8, rows: &[u8]) -> Told {
-    let draft = match Draft::new(n, k, t, kind) {
-        Ok(draft) => draft,
-        Err(fault) => return told(fault),
-    };
-    match draft.trial(kind, list, rows) {
-        Ok(_) => LIVE,
-        Err(rejected) => told(rejected.fault),
-    }
+    told(live(kind, list, n, k, t, rows))
 }
 
 #[test]
@@ -94,10 +75,8 @@ fn unfit_for_a_trial(rt: HostRuntime) -> Result<(), Fail> {
     let bits = Residues::new(2)?;
     let shifts = Shifts::new(7, 1, 5);
     let draft = Draft::new(7, 4, 1, &Residues::new(3)?)?;
-    let Err(rejected) = draft.trial(&bits, &shifts, &HAMMING) else {
-        return Err(Fail::new("another kind was let through"));
-    };
-    assert_eq!(rt; told(rejected.fault), (6, 0, 0));
+    let answer = draft.trial(&bits, &shifts, &HAMMING);
+    assert_eq!(rt; told(answer.map_err(|rejected| rejected.fault)), (6, 0, 0));
     assert_eq!(rt; tried(&bits, &shifts, 7, 4, 1, &[1, 1]), (6, 0, 0));
     assert_eq!(rt;
         tried(
