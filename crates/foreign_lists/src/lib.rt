@@ -53,8 +53,7 @@ pub fn definitions_stand()
     ensures numbering { Numbering }
     ensures shifts { PlainShifts }
     ensures tables { PlainTables }
-{
-}
+{}
 
 #[cfg(test)]
 mod tests {

@@ -1,6 +1,4 @@
-use Rattle.std.proofs.Common.{◌≡◌, ℕ, ◌<◌, ◌≢◌, length, get_or, set, Some, sym, ap, ◌∙◌, subst, arith, length-set, below_more}
-use Rattle.std.proofs.lemmas.List.{get_or-set_same, get_or-set_other}
-use Rattle.lists.specs.Told.{told}
+use Rattle.std.proofs.Common.{◌≡◌, ℕ, ◌<◌, length, Some, sym, ◌∙◌, subst, arith}
 use Rattle.schemes.proofs.scheme.attempting.bring_back.Goals as goal
 
 held : (a b : ℕ) → Some a ≡ Some b → a ≡ b
