@@ -1,4 +1,6 @@
 // Both decoders on the same blocks.
+ghost use Rattle.std.specs.Prelude.{◌<◌};
+
 use crate::brute::{Book, Size};
 use faults::Fault;
 use lists::Permutations;
@@ -181,24 +183,24 @@ fn random(seed: u32) -> u32 {
     seed.wrapping_mul(1_664_525).wrapping_add(1_013_904_223)
 }
 
-// A mask of some of n places, drawn at random.
-fn scattered(seed: u32, n: u8, errors: u8) -> (u32, u32) {
-    let mut mask = 0u32;
-    let mut next = seed;
-    for _ in 0..errors {
-        next = random(next);
-        mask |= 1 << ((next >> 8) % (n.max(1) as u32) % 32);
-    }
-    (mask, next)
+// A mask of some of n places, drawn at random, and the last random number.
+fn scattered(seed: u32, n: u8, errors: u8) -> (u32, u32)
+    requires { 0 < n }
+{
+    (0..errors).fold((0, seed), |(mask, last), _| {
+        let next = random(last);
+        (mask | 1 << ((next >> 8) % n as u32 % 32), next)
+    })
 }
 
 // The symbols of a number in base q, the lowest first.
 fn numbered(x: u32, q: u8) -> [u8; 64] {
+    let q = q.max(1) as u32;
     let mut block = [0u8; 64];
     let mut rest = x;
     for place in block.iter_mut() {
-        *place = (rest % q.max(1) as u32) as u8;
-        rest /= q.max(1) as u32;
+        *place = (rest % q) as u8;
+        rest /= q;
     }
     block
 }
