@@ -1,5 +1,5 @@
 // All codewords of a code, one after another, and the nearest of them to a block. Nothing of the product's decoder is used here.
-ghost use Rattle.std.specs.Prelude.{◌<◌, ◌≤◌};
+ghost use Rattle.std.specs.Prelude.{◌≡◌, ◌<◌, ◌≤◌};
 
 use std::alloc::{AllocError, Global};
 use std::fmt;
@@ -16,18 +16,26 @@ pub struct Size {
     ghost errors: { t ≤ 5 },
 }
 
+impl Size {
+    pub fn new(n: u8, k: u8, t: u8) -> Size
+        requires { (k < n) × (n ≤ 64) × (t ≤ 5) }
+        ensures { result.n ≡ n }
+    {
+        Size { n, k, t }
+    }
+}
+
 impl fmt::Display for Size {
     fn fmt<W: fmt::Write>(&self, f: &mut fmt::Formatter<W>) -> fmt::Result {
         write!(f, "({},{},{})", self.n, self.k, self.t)
     }
 }
 
-// The codewords of a code of n places.
+// The codewords of a code.
 #[derive(Drop)]
 pub struct Book {
-    n: u8,
+    pub size: Size,
     words: Vec<u8>,
-    ghost some: { 0 < n },
 }
 
 // The next message of symbols below q, the first symbol first to rise.
@@ -84,12 +92,12 @@ impl Book {
             put_checks(&mut words, kind, rows, width, &message)?;
             step(&mut message, kind.order());
         }
-        Ok(Book { n: size.n, words })
+        Ok(Book { size, words })
     }
 
     // A codeword drawn by a number, or none if there are no codewords.
     pub fn drawn(&self, number: usize) -> Option<&[u8]> {
-        let n = self.n as usize;
+        let n = self.size.n as usize;
         let number = number.checked_rem(self.words.len() / n)?;
         self.words.chunks_exact(n).nth(number)
     }
@@ -97,7 +105,7 @@ impl Book {
     // The codeword nearest to a block, and its distance: of several, the first.
     pub fn nearest(&self, block: &[u8]) -> Option<(usize, &[u8])> {
         self.words
-            .chunks_exact(self.n as usize)
+            .chunks_exact(self.size.n as usize)
             .map(|word| (differing(word, block), word))
             .min_by_key(|(distance, _)| *distance)
     }

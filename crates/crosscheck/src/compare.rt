@@ -1,7 +1,7 @@
 // Both decoders on the same blocks.
 ghost use Rattle.std.specs.Prelude.{◌<◌};
 
-use crate::brute::{Book, Size};
+use crate::brute::Book;
 use faults::Fault;
 use lists::Permutations;
 use schemes::Live;
@@ -47,7 +47,6 @@ pub struct Comparison<'a, K, L> {
     kind: &'a K,
     list: &'a L,
     rows: &'a [u8],
-    size: Size,
     book: Book,
     found: Found,
 }
@@ -58,11 +57,11 @@ impl<'a, K: Kind, L: Permutations> Comparison<'a, K, L> {
         kind: &'a K,
         list: &'a L,
         rows: &'a [u8],
-        size: Size,
         book: Book,
+        blocks: Blocks,
     ) -> Comparison<'a, K, L> {
         let found = Found {
-            blocks: Blocks::Every,
+            blocks,
             near: 0,
             far: 0,
             lost: 0,
@@ -73,16 +72,14 @@ impl<'a, K: Kind, L: Permutations> Comparison<'a, K, L> {
             kind,
             list,
             rows,
-            size,
             book,
             found,
         }
     }
 
     // Compares the blocks, and answers what was found.
-    pub fn run(&mut self, blocks: Blocks) -> Found {
-        self.found.blocks = blocks;
-        match blocks {
+    pub fn run(mut self) -> Found {
+        match self.found.blocks {
             Blocks::Every => self.every_block(),
             Blocks::Patterns => {
                 self.samples();
@@ -94,7 +91,7 @@ impl<'a, K: Kind, L: Permutations> Comparison<'a, K, L> {
 
     // Whether both decoders make the same of a block: the codeword at most t places away, or none.
     fn agree(&mut self, block: &[u8], out: &mut [u8]) -> bool {
-        let t = self.size.t as usize;
+        let t = self.book.size.t as usize;
         let answer = self
             .live
             .correct(self.kind, self.list, self.rows, block, out);
@@ -111,7 +108,7 @@ impl<'a, K: Kind, L: Permutations> Comparison<'a, K, L> {
 
     // Compares one block, the first n symbols of the given ones.
     fn one(&mut self, symbols: &[u8; 64]) {
-        let n = self.size.n as usize;
+        let n = self.book.size.n as usize;
         let mut out = [0u8; 64];
         if !self.agree(&symbols[..n], &mut out[..n]) {
             self.found.different = self.found.different.saturating_add(1);
@@ -121,7 +118,7 @@ impl<'a, K: Kind, L: Permutations> Comparison<'a, K, L> {
     // Every block of symbols, at most 100,000.
     fn every_block(&mut self) {
         let q = self.kind.order();
-        let count = (q as u32).saturating_pow(self.size.n as u32);
+        let count = (q as u32).saturating_pow(self.book.size.n as u32);
         for x in 0..count.min(100_000) {
             self.one(&numbered(x, q));
             self.found.near = self.found.near.saturating_add(1);
@@ -135,7 +132,7 @@ impl<'a, K: Kind, L: Permutations> Comparison<'a, K, L> {
             .drawn((seed >> 4) as usize)
             .map_or([0; 64], |word| turned(word, mask));
         self.one(&block);
-        if mask.count_ones() <= self.size.t as u32 {
+        if mask.count_ones() <= self.book.size.t as u32 {
             self.found.near = self.found.near.saturating_add(1);
         } else {
             self.found.far = self.found.far.saturating_add(1);
@@ -144,12 +141,12 @@ impl<'a, K: Kind, L: Permutations> Comparison<'a, K, L> {
 
     // Every pattern of at most t errors, if the code has at most 23 places.
     fn every_pattern(&mut self) {
-        if self.size.n > 23 {
+        if self.book.size.n > 23 {
             return;
         }
-        let t = self.size.t as u32;
+        let t = self.book.size.t as u32;
         let mut seed = 1u32;
-        for mask in (0..1u32 << self.size.n).filter(|mask| mask.count_ones() <= t) {
+        for mask in (0..1u32 << self.book.size.n).filter(|mask| mask.count_ones() <= t) {
             seed = random(seed);
             self.pattern(seed, mask);
         }
@@ -160,7 +157,7 @@ impl<'a, K: Kind, L: Permutations> Comparison<'a, K, L> {
         let mut seed = 1u32;
         for i in 0..200u32 {
             let more = if i < 100 { 0 } else { 1 + (i % 4) as u8 };
-            let (mask, next) = scattered(seed, self.size.n, self.size.t + more);
+            let (mask, next) = scattered(seed, self.book.size.n, self.book.size.t + more);
             seed = random(next);
             self.pattern(seed, mask);
         }
