@@ -120,24 +120,21 @@ fn differing(a: &[u8], b: &[u8]) -> usize {
 fn power_of_x(power: u8, generator: u32, degree: u8) -> u32
     requires { degree < 32 }
 {
-    let mut x = 1u32;
-    for _ in 0..power {
-        x <<= 1;
-        if x >> degree & 1 == 1 {
-            x ^= generator;
+    (0..power).fold(1, |x: u32, _| {
+        let next = x << 1;
+        if next >> degree & 1 == 1 {
+            next ^ generator
+        } else {
+            next
         }
-    }
-    x
+    })
 }
 
 // Appends the bits of a check row, the coefficient of the highest power first.
 fn put_bits(rows: &mut Vec<u8>, row: u32, degree: u8) -> Result<(), AllocError>
     requires { degree ≤ 32 }
 {
-    for power in (0..degree).rev() {
-        rows.push((row >> power & 1) as u8)?;
-    }
-    Ok(())
+    rows.extend((0..degree).rev().map(|power| (row >> power & 1) as u8))
 }
 
 // The check rows of a cyclic code whose place p is the coefficient of the power n - 1 - p: row i is x to the power n - 1 - i, reduced.
