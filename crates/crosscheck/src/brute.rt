@@ -70,10 +70,7 @@ fn put_checks<K: Kind>(
 ) -> Result<(), AllocError>
     requires { 0 < width }
 {
-    for j in 0..width {
-        words.push(check_symbol(kind, rows, width, message, j))?;
-    }
-    Ok(())
+    words.extend((0..width).map(|j| check_symbol(kind, rows, width, message, j)))
 }
 
 impl Book {
