@@ -1,5 +1,5 @@
 // All codewords of a code, one after another, and the nearest of them to a block. Nothing of the product's decoder is used here.
-ghost use Rattle.std.specs.Prelude.{◌<◌, ◌≤◌};
+ghost use Rattle.std.specs.Prelude.{◌≡◌, ◌<◌, ◌≤◌};
 
 use std::alloc::{AllocError, Global};
 use std::fmt;
@@ -16,18 +16,26 @@ pub struct Size {
     ghost errors: { t ≤ 5 },
 }
 
+impl Size {
+    pub fn new(n: u8, k: u8, t: u8) -> Size
+        requires { (k < n) × (n ≤ 64) × (t ≤ 5) }
+        ensures { result.n ≡ n }
+    {
+        Size { n, k, t }
+    }
+}
+
 impl fmt::Display for Size {
     fn fmt<W: fmt::Write>(&self, f: &mut fmt::Formatter<W>) -> fmt::Result {
         write!(f, "({},{},{})", self.n, self.k, self.t)
     }
 }
 
-// The codewords of a code of n places.
+// The codewords of a code.
 #[derive(Drop)]
 pub struct Book {
-    n: u8,
+    pub size: Size,
     words: Vec<u8>,
-    ghost some: { 0 < n },
 }
 
 // The next message of symbols below q, the first symbol first to rise.
@@ -62,10 +70,7 @@ fn put_checks<K: Kind>(
 ) -> Result<(), AllocError>
     requires { 0 < width }
 {
-    for j in 0..width {
-        words.push(check_symbol(kind, rows, width, message, j))?;
-    }
-    Ok(())
+    words.extend((0..width).map(|j| check_symbol(kind, rows, width, message, j)))
 }
 
 impl Book {
@@ -84,12 +89,12 @@ impl Book {
             put_checks(&mut words, kind, rows, width, &message)?;
             step(&mut message, kind.order());
         }
-        Ok(Book { n: size.n, words })
+        Ok(Book { size, words })
     }
 
     // A codeword drawn by a number, or none if there are no codewords.
     pub fn drawn(&self, number: usize) -> Option<&[u8]> {
-        let n = self.n as usize;
+        let n = self.size.n as usize;
         let number = number.checked_rem(self.words.len() / n)?;
         self.words.chunks_exact(n).nth(number)
     }
@@ -97,7 +102,7 @@ impl Book {
     // The codeword nearest to a block, and its distance: of several, the first.
     pub fn nearest(&self, block: &[u8]) -> Option<(usize, &[u8])> {
         self.words
-            .chunks_exact(self.n as usize)
+            .chunks_exact(self.size.n as usize)
             .map(|word| (differing(word, block), word))
             .min_by_key(|(distance, _)| *distance)
     }
@@ -112,24 +117,21 @@ fn differing(a: &[u8], b: &[u8]) -> usize {
 fn power_of_x(power: u8, generator: u32, degree: u8) -> u32
     requires { degree < 32 }
 {
-    let mut x = 1u32;
-    for _ in 0..power {
-        x <<= 1;
-        if x >> degree & 1 == 1 {
-            x ^= generator;
+    (0..power).fold(1, |x: u32, _| {
+        let next = x << 1;
+        if next >> degree & 1 == 1 {
+            next ^ generator
+        } else {
+            next
         }
-    }
-    x
+    })
 }
 
 // Appends the bits of a check row, the coefficient of the highest power first.
 fn put_bits(rows: &mut Vec<u8>, row: u32, degree: u8) -> Result<(), AllocError>
     requires { degree ≤ 32 }
 {
-    for power in (0..degree).rev() {
-        rows.push((row >> power & 1) as u8)?;
-    }
-    Ok(())
+    rows.extend((0..degree).rev().map(|power| (row >> power & 1) as u8))
 }
 
 // The check rows of a cyclic code whose place p is the coefficient of the power n - 1 - p: row i is x to the power n - 1 - i, reduced.

@@ -1,5 +1,7 @@
 // Both decoders on the same blocks.
-use crate::brute::{Book, Size};
+ghost use Rattle.std.specs.Prelude.{◌<◌};
+
+use crate::brute::Book;
 use faults::Fault;
 use lists::Permutations;
 use schemes::Live;
@@ -45,7 +47,6 @@ pub struct Comparison<'a, K, L> {
     kind: &'a K,
     list: &'a L,
     rows: &'a [u8],
-    size: Size,
     book: Book,
     found: Found,
 }
@@ -56,11 +57,11 @@ impl<'a, K: Kind, L: Permutations> Comparison<'a, K, L> {
         kind: &'a K,
         list: &'a L,
         rows: &'a [u8],
-        size: Size,
         book: Book,
+        blocks: Blocks,
     ) -> Comparison<'a, K, L> {
         let found = Found {
-            blocks: Blocks::Every,
+            blocks,
             near: 0,
             far: 0,
             lost: 0,
@@ -71,16 +72,14 @@ impl<'a, K: Kind, L: Permutations> Comparison<'a, K, L> {
             kind,
             list,
             rows,
-            size,
             book,
             found,
         }
     }
 
     // Compares the blocks, and answers what was found.
-    pub fn run(&mut self, blocks: Blocks) -> Found {
-        self.found.blocks = blocks;
-        match blocks {
+    pub fn run(mut self) -> Found {
+        match self.found.blocks {
             Blocks::Every => self.every_block(),
             Blocks::Patterns => {
                 self.samples();
@@ -92,7 +91,7 @@ impl<'a, K: Kind, L: Permutations> Comparison<'a, K, L> {
 
     // Whether both decoders make the same of a block: the codeword at most t places away, or none.
     fn agree(&mut self, block: &[u8], out: &mut [u8]) -> bool {
-        let t = self.size.t as usize;
+        let t = self.book.size.t as usize;
         let answer = self
             .live
             .correct(self.kind, self.list, self.rows, block, out);
@@ -109,7 +108,7 @@ impl<'a, K: Kind, L: Permutations> Comparison<'a, K, L> {
 
     // Compares one block, the first n symbols of the given ones.
     fn one(&mut self, symbols: &[u8; 64]) {
-        let n = self.size.n as usize;
+        let n = self.book.size.n as usize;
         let mut out = [0u8; 64];
         if !self.agree(&symbols[..n], &mut out[..n]) {
             self.found.different = self.found.different.saturating_add(1);
@@ -119,7 +118,7 @@ impl<'a, K: Kind, L: Permutations> Comparison<'a, K, L> {
     // Every block of symbols, at most 100,000.
     fn every_block(&mut self) {
         let q = self.kind.order();
-        let count = (q as u32).saturating_pow(self.size.n as u32);
+        let count = (q as u32).saturating_pow(self.book.size.n as u32);
         for x in 0..count.min(100_000) {
             self.one(&numbered(x, q));
             self.found.near = self.found.near.saturating_add(1);
@@ -133,7 +132,7 @@ impl<'a, K: Kind, L: Permutations> Comparison<'a, K, L> {
             .drawn((seed >> 4) as usize)
             .map_or([0; 64], |word| turned(word, mask));
         self.one(&block);
-        if mask.count_ones() <= self.size.t as u32 {
+        if mask.count_ones() <= self.book.size.t as u32 {
             self.found.near = self.found.near.saturating_add(1);
         } else {
             self.found.far = self.found.far.saturating_add(1);
@@ -142,12 +141,12 @@ impl<'a, K: Kind, L: Permutations> Comparison<'a, K, L> {
 
     // Every pattern of at most t errors, if the code has at most 23 places.
     fn every_pattern(&mut self) {
-        if self.size.n > 23 {
+        if self.book.size.n > 23 {
             return;
         }
-        let t = self.size.t as u32;
+        let t = self.book.size.t as u32;
         let mut seed = 1u32;
-        for mask in (0..1u32 << self.size.n).filter(|mask| mask.count_ones() <= t) {
+        for mask in (0..1u32 << self.book.size.n).filter(|mask| mask.count_ones() <= t) {
             seed = random(seed);
             self.pattern(seed, mask);
         }
@@ -158,7 +157,7 @@ impl<'a, K: Kind, L: Permutations> Comparison<'a, K, L> {
         let mut seed = 1u32;
         for i in 0..200u32 {
             let more = if i < 100 { 0 } else { 1 + (i % 4) as u8 };
-            let (mask, next) = scattered(seed, self.size.n, self.size.t + more);
+            let (mask, next) = scattered(seed, self.book.size.n, self.book.size.t + more);
             seed = random(next);
             self.pattern(seed, mask);
         }
@@ -181,24 +180,24 @@ fn random(seed: u32) -> u32 {
     seed.wrapping_mul(1_664_525).wrapping_add(1_013_904_223)
 }
 
-// A mask of some of n places, drawn at random.
-fn scattered(seed: u32, n: u8, errors: u8) -> (u32, u32) {
-    let mut mask = 0u32;
-    let mut next = seed;
-    for _ in 0..errors {
-        next = random(next);
-        mask |= 1 << ((next >> 8) % (n.max(1) as u32) % 32);
-    }
-    (mask, next)
+// A mask of some of n places, drawn at random, and the last random number.
+fn scattered(seed: u32, n: u8, errors: u8) -> (u32, u32)
+    requires { 0 < n }
+{
+    (0..errors).fold((0, seed), |(mask, last), _| {
+        let next = random(last);
+        (mask | 1 << ((next >> 8) % n as u32 % 32), next)
+    })
 }
 
 // The symbols of a number in base q, the lowest first.
 fn numbered(x: u32, q: u8) -> [u8; 64] {
+    let q = q.max(1) as u32;
     let mut block = [0u8; 64];
     let mut rest = x;
     for place in block.iter_mut() {
-        *place = (rest % q.max(1) as u32) as u8;
-        rest /= q.max(1) as u32;
+        *place = (rest % q) as u8;
+        rest /= q;
     }
     block
 }

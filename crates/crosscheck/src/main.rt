@@ -57,7 +57,7 @@ fn cyclic_code(n: u8, k: u8, t: u8, generator: u32, powers: u8) -> Cyclic
     requires { (k < n) × (n < 32) × (t ≤ 5) }
 {
     Cyclic {
-        size: Size { n, k, t },
+        size: Size::new(n, k, t),
         generator,
         powers,
     }
@@ -76,7 +76,7 @@ fn compare_code<K: Kind, L: Permutations>(
     match Draft::new(size.n, size.k, size.t, kind)?.trial(kind, list, rows) {
         Ok(live) => {
             let book = Book::new(rt.alloc(), kind, size, rows)?;
-            let found = Comparison::new(live, kind, list, rows, size, book).run(blocks);
+            let found = Comparison::new(live, kind, list, rows, book, blocks).run();
             println!(rt; "{label}: live, {found}")?;
         }
         Err(rejected) => println!(rt; "{label}: {}", rejected.fault)?,
@@ -129,9 +129,13 @@ fn run_cyclic(rt: &HostRuntime) -> Result<(), Failure> {
     Ok(())
 }
 
-// Small codes over other rings.
+// Small codes over other rings: one with two information places, and a symbol with its multiples in three, four and five places.
 fn run_small(rt: &HostRuntime) -> Result<(), Failure> {
     let table = Table::new(4, &[0, 1, 2, 3, 1, 2, 0, 3, 2, 0, 1, 3])?;
+    let ternary = Size::new(4, 2, 1);
+    let threefold = Size::new(3, 1, 1);
+    let fourfold = Size::new(4, 1, 1);
+    let fivefold = Size::new(5, 1, 2);
     let three = Shifts::new(3, 1, 3);
     let four = Shifts::new(4, 1, 4);
     let five = Shifts::new(5, 1, 5);
@@ -143,62 +147,13 @@ fn run_small(rt: &HostRuntime) -> Result<(), Failure> {
     let bits3 = TwoPower::new(3)?;
     let bits4 = TwoPower::new(4)?;
     let matrices = Triangular::new();
-    compare_small(
-        rt,
-        "residues 3",
-        &mod3,
-        &table,
-        Size { n: 4, k: 2, t: 1 },
-        &[2, 2, 2, 1],
-    )?;
-    compare_small(
-        rt,
-        "residues 4",
-        &mod4,
-        &four,
-        Size { n: 4, k: 1, t: 1 },
-        &[3, 1, 3],
-    )?;
-    compare_small(
-        rt,
-        "residues 5",
-        &mod5,
-        &five,
-        Size { n: 5, k: 1, t: 2 },
-        &[1, 1, 1, 1],
-    )?;
-    compare_small(
-        rt,
-        "two-power 2",
-        &bits2,
-        &three,
-        Size { n: 3, k: 1, t: 1 },
-        &[2, 3],
-    )?;
-    compare_small(
-        rt,
-        "two-power 3",
-        &bits3,
-        &four,
-        Size { n: 4, k: 1, t: 1 },
-        &[1, 1, 1],
-    )?;
-    compare_small(
-        rt,
-        "two-power 4",
-        &bits4,
-        &three,
-        Size { n: 3, k: 1, t: 1 },
-        &[6, 7],
-    )?;
-    compare_small(
-        rt,
-        "matrices",
-        &matrices,
-        &reversed,
-        Size { n: 4, k: 1, t: 1 },
-        &[3, 1, 3],
-    )
+    compare_small(rt, "residues 3", &mod3, &table, ternary, &[2, 2, 2, 1])?;
+    compare_small(rt, "residues 4", &mod4, &four, fourfold, &[3, 1, 3])?;
+    compare_small(rt, "residues 5", &mod5, &five, fivefold, &[1, 1, 1, 1])?;
+    compare_small(rt, "two-power 2", &bits2, &three, threefold, &[2, 3])?;
+    compare_small(rt, "two-power 3", &bits3, &four, fourfold, &[1, 1, 1])?;
+    compare_small(rt, "two-power 4", &bits4, &three, threefold, &[6, 7])?;
+    compare_small(rt, "matrices", &matrices, &reversed, fourfold, &[3, 1, 3])
 }
 
 // Compares the decoders on all schemes.
