@@ -12,16 +12,18 @@ pub struct Size {
     pub k: u8,
     pub t: u8,
     ghost longest: { n ≤ 64 },
+    ghost some: { 0 < k },
     ghost order: { k < n },
     ghost errors: { t ≤ 5 },
 }
 
 impl Size {
-    pub fn new(n: u8, k: u8, t: u8) -> Size
-        requires { (k < n) × (n ≤ 64) × (t ≤ 5) }
-        ensures { result.n ≡ n }
-    {
-        Size { n, k, t }
+    // None where the numbers are outside these limits.
+    pub fn new(n: u8, k: u8, t: u8) -> Option<Size> {
+        if n > 64 || k == 0 || k >= n || t > 5 {
+            return None;
+        }
+        Some(Size { n, k, t })
     }
 }
 
@@ -114,13 +116,13 @@ fn differing(a: &[u8], b: &[u8]) -> usize {
 }
 
 // x to a power, reduced by a generator of the given degree.
-fn power_of_x(power: u8, generator: u32, degree: u8) -> u32
-    requires { degree < 32 }
+fn power_of_x(power: u8, generator: u32, degree: u8) -> u64
+    requires { degree < 64 }
 {
-    (0..power).fold(1, |x: u32, _| {
+    (0..power).fold(1, |x: u64, _| {
         let next = x << 1;
         if next >> degree & 1 == 1 {
-            next ^ generator
+            next ^ generator as u64
         } else {
             next
         }
@@ -128,16 +130,14 @@ fn power_of_x(power: u8, generator: u32, degree: u8) -> u32
 }
 
 // Appends the bits of a check row, the coefficient of the highest power first.
-fn put_bits(rows: &mut Vec<u8>, row: u32, degree: u8) -> Result<(), AllocError>
-    requires { degree ≤ 32 }
+fn put_bits(rows: &mut Vec<u8>, row: u64, degree: u8) -> Result<(), AllocError>
+    requires { degree ≤ 64 }
 {
     rows.extend((0..degree).rev().map(|power| (row >> power & 1) as u8))
 }
 
 // The check rows of a cyclic code whose place p is the coefficient of the power n - 1 - p: row i is x to the power n - 1 - i, reduced.
-pub fn cyclic_rows(heap: Global, size: Size, generator: u32) -> Result<Vec<u8>, AllocError>
-    requires { size.n < 32 }
-{
+pub fn cyclic_rows(heap: Global, size: Size, generator: u32) -> Result<Vec<u8>, AllocError> {
     let degree = size.n - size.k;
     let mut rows = Vec::new(heap);
     for i in 0..size.k {

@@ -3,8 +3,6 @@
 
 #![tactic(auto)]
 
-ghost use Rattle.std.specs.Prelude.{◌<◌, ◌≤◌};
-
 use brute::{Book, Size, cyclic_rows};
 use compare::{Blocks, Comparison};
 use faults::Fault;
@@ -20,8 +18,10 @@ mod brute;
 mod compare;
 
 // Why the program stops early.
+#[derive(Clone, Copy)]
 enum Failure {
     Refused(Fault),
+    Numbers,
     Memory,
     Output,
 }
@@ -44,23 +44,24 @@ impl From<io::Error> for Failure {
     }
 }
 
-// A binary cyclic code of fewer than 32 places: its generator has the coefficient of the i-th power as bit i.
+fn size_of(n: u8, k: u8, t: u8) -> Result<Size, Failure> {
+    Size::new(n, k, t).ok_or(Failure::Numbers)
+}
+
+// A binary cyclic code: its generator has the coefficient of the i-th power as bit i.
 #[derive(Clone, Copy)]
 struct Cyclic {
     size: Size,
     generator: u32,
     powers: u8,
-    ghost bits: { size.n < 32 },
 }
 
-fn cyclic_code(n: u8, k: u8, t: u8, generator: u32, powers: u8) -> Cyclic
-    requires { (k < n) × (n < 32) × (t ≤ 5) }
-{
-    Cyclic {
-        size: Size::new(n, k, t),
+fn cyclic_code(n: u8, k: u8, t: u8, generator: u32, powers: u8) -> Result<Cyclic, Failure> {
+    Ok(Cyclic {
+        size: size_of(n, k, t)?,
         generator,
         powers,
-    }
+    })
 }
 
 // Compares both decoders on blocks of a code, and prints a line.
@@ -111,17 +112,17 @@ fn compare_small<K: Kind, L: Permutations>(
 // The binary cyclic codes, with all shifts and the powers of multiplier 2.
 fn run_cyclic(rt: &HostRuntime) -> Result<(), Failure> {
     let codes = [
-        cyclic_code(23, 12, 3, 3189, 4),
-        cyclic_code(23, 12, 3, 3189, 3),
-        cyclic_code(23, 12, 3, 3189, 11),
-        cyclic_code(31, 16, 3, 62961, 5),
-        cyclic_code(31, 11, 4, 1940501, 5),
-        cyclic_code(21, 12, 2, 947, 6),
-        cyclic_code(21, 9, 3, 7723, 6),
-        cyclic_code(21, 5, 4, 128305, 6),
-        cyclic_code(17, 9, 2, 471, 8),
-        cyclic_code(15, 7, 2, 465, 4),
-        cyclic_code(15, 5, 3, 1893, 4),
+        cyclic_code(23, 12, 3, 3189, 4)?,
+        cyclic_code(23, 12, 3, 3189, 3)?,
+        cyclic_code(23, 12, 3, 3189, 11)?,
+        cyclic_code(31, 16, 3, 62961, 5)?,
+        cyclic_code(31, 11, 4, 1940501, 5)?,
+        cyclic_code(21, 12, 2, 947, 6)?,
+        cyclic_code(21, 9, 3, 7723, 6)?,
+        cyclic_code(21, 5, 4, 128305, 6)?,
+        cyclic_code(17, 9, 2, 471, 8)?,
+        cyclic_code(15, 7, 2, 465, 4)?,
+        cyclic_code(15, 5, 3, 1893, 4)?,
     ];
     for code in codes {
         compare_cyclic(rt, code)?;
@@ -132,10 +133,10 @@ fn run_cyclic(rt: &HostRuntime) -> Result<(), Failure> {
 // Small codes over other rings: one with two information places, and a symbol with its multiples in three, four and five places.
 fn run_small(rt: &HostRuntime) -> Result<(), Failure> {
     let table = Table::new(4, &[0, 1, 2, 3, 1, 2, 0, 3, 2, 0, 1, 3])?;
-    let ternary = Size::new(4, 2, 1);
-    let threefold = Size::new(3, 1, 1);
-    let fourfold = Size::new(4, 1, 1);
-    let fivefold = Size::new(5, 1, 2);
+    let ternary = size_of(4, 2, 1)?;
+    let threefold = size_of(3, 1, 1)?;
+    let fourfold = size_of(4, 1, 1)?;
+    let fivefold = size_of(5, 1, 2)?;
     let three = Shifts::new(3, 1, 3);
     let four = Shifts::new(4, 1, 4);
     let five = Shifts::new(5, 1, 5);
@@ -166,6 +167,7 @@ fn main(rt: HostRuntime) -> io::Result<()> {
     match run(&rt) {
         Ok(_) => Ok(()),
         Err(Failure::Refused(fault)) => println!(rt; "{fault}"),
+        Err(Failure::Numbers) => println!(rt; "no code has such numbers"),
         Err(Failure::Memory) => println!(rt; "out of memory"),
         Err(Failure::Output) => Ok(()),
     }
