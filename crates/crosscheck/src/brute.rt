@@ -33,7 +33,7 @@ impl fmt::Display for Size {
     }
 }
 
-// The codewords of a code.
+// The codewords of a code, one after another: `chunks_exact` cuts them, and no memory is asked for each.
 #[derive(Drop)]
 pub struct Book {
     pub size: Size,

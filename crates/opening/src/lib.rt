@@ -50,7 +50,7 @@ pub fn list_of<'a>(n: u8, count: u16, form: Form<'a>) -> Result<FileList<'a>, Fa
     }
 }
 
-// Drafts and tries: a live scheme that keeps its promise, or the first refusal.
+// Drafts and tries: a live scheme that keeps its promise, or the first refusal. Kind, list and rows are apart, as callers hold them.
 pub fn go_live<K: Kind, L: Permutations>(
     n: u8,
     k: u8,

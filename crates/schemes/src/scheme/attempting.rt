@@ -5,7 +5,7 @@ ghost use Rattle.codes.specs.Code.{unit};
 
 use crate::scheme::counts::distance;
 use crate::scheme::permuting::Listed;
-use crate::scheme::words::{Code, Word};
+use crate::scheme::words::{Code, Message, Word};
 use lists::{Permutations, Targets};
 use symbols::Kind;
 
@@ -34,6 +34,7 @@ fn bring_back(word: &[u8], targets: &Targets) -> Word
     ensures { (p to : ℕ) → p < length word.now → told targets.now p ≡ Some to → slice_index result p ≡ slice_index word.now to }
 {
     let mut back = [0u8; 64];
+    // The targets are asked by the number of a place.
     for p in 0..word.len() {
         let Some(to) = targets.target(p as u8) else {
             return unreachable();
@@ -44,7 +45,7 @@ fn bring_back(word: &[u8], targets: &Targets) -> Word
 }
 
 // The unit message j: a 1 at information place j, and 0 elsewhere.
-fn unit(j: usize) -> [u8; 16]
+fn unit(j: usize) -> Message
     requires { j < 16 }
     ensures { (k : ℕ) → k ≤ 16 → take k result ≡ unit k j }
 {
@@ -87,7 +88,7 @@ impl<'c, 'l, K: Kind, L: Permutations> Fitted<'c, 'l, K, L> {
         })
     }
 
-    // The first attempt that succeeds. The loop breaks with it, which a `for` cannot.
+    // The first attempt that succeeds. The loop breaks with it: a rule of the project asks for this form here (docs/DECISIONS.md).
     fn first_success(&self, v: &[u8]) -> Option<Success>
         requires block { Symbols (K.ring self.now.code.kind.now).q self.now.code.n v.now }
         ensures { MatchOption result ((i : ℕ) → i < (L.meaning self.now.list.list.now).count → Succeeds (code_lent K.ring self.now.code) self.now.t ((L.meaning self.now.list.list.now).target i) v.now → ⊥)
@@ -130,6 +131,7 @@ impl<'c, 'l, K: Kind, L: Permutations> Fitted<'c, 'l, K, L> {
         ensures { result ≡ unkept_unit (code_lent K.ring self.now.code) ((L.meaning self.now.list.list.now).target i) }
     {
         let n = self.code.n;
+        // Not plainer as `find`: the step itself can leave.
         for j in 0..self.code.k {
             let message = unit(j);
             let word = self.code.codeword(&message[..self.code.k]);
@@ -148,6 +150,7 @@ impl<'c, 'l, K: Kind, L: Permutations> Fitted<'c, 'l, K, L> {
         requires permutations { (i : ℕ) → i < (L.meaning self.now.list.list.now).count → Permutation self.now.code.n ((L.meaning self.now.list.list.now).target i) }
         ensures { result ≡ unkept (code_lent K.ring self.now.code) (L.meaning self.now.list.list.now).count (L.meaning self.now.list.list.now).target }
     {
+        // The list is asked by number, and `find_map` is no plainer.
         for i in 0..self.list.list.count() {
             if let Some(j) = self.unkept_unit(i) {
                 return Some((i, j));

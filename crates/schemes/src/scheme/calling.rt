@@ -79,7 +79,7 @@ impl Live {
         self.draft.n
     }
 
-    // Writes the codeword of a message.
+    // Writes the codeword of a message. Here and below, kind, list and rows are apart, as callers hold them: no struct of ours is asked of them.
     pub fn encode<K: Kind, L: Permutations>(
         &self,
         kind: &K,

@@ -18,6 +18,7 @@ fn run_from(set: Places, j: usize, t: usize, first: u8) -> Places
     ensures numbered { (i : ℕ) → j ≤ i → i < t → slice_index result i ≡ first + (i - j) }
 {
     let mut next = set;
+    // The number l is written, too.
     for l in j..t {
         next[l] = first + (l - j) as u8;
     }
@@ -37,6 +38,7 @@ fn successor(set: Places, t: usize, n: u8) -> Option<Places>
     requires { (t ≤ 5) × (n ≤ 64) }
     ensures { MatchOption result (Last n (take t set)) (λ s. Next n (take t set) (take t s)) }
 {
+    // Not plainer as `find`: the place and what stands there are both asked.
     for j in (0..t).rev() {
         if can_rise(set[j], t - j, n) {
             return Some(run_from(set, j, t, set[j] + 1));
@@ -112,6 +114,7 @@ fn first_met(masks: &[u64], t: usize, n: u8) -> Option<u64>
         (λ x. (s : List ℕ) × (x ≡ bits s) × SetOf n t s × (Missed masks.now (length masks.now) s → ⊥) × ((ps : List ℕ) → SetOf n t ps → Before ps s → Missed masks.now (length masks.now) ps)) }
 {
     let mut set = run_from([0; 5], 0, t, 0);
+    // Each set follows from the one before and from the masks, so no iterator has them.
     loop {
         let number = number_of(set, t, n);
         if !missed(masks, number) {
@@ -129,6 +132,7 @@ impl<'a, L: Permutations> Listed<'a, L> {
     {
         let targets = self.list.targets(i);
         let mut mask = 0u64;
+        // The targets are asked by the number of a place.
         for p in 0..self.n {
             let Some(to) = targets.target(p) else {
                 return unreachable();
@@ -145,6 +149,7 @@ impl<'a, L: Permutations> Listed<'a, L> {
         ensures { (i : ℕ) → i < (L.meaning self.now.list.now).count → MaskOf self.now.n k ((L.meaning self.now.list.now).target i) (slice_index result i) }
     {
         let mut masks = [0u64; 512];
+        // The list is asked by number.
         for i in 0..self.list.count() {
             masks[i as usize] = self.mask(i, k);
         }

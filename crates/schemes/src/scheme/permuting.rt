@@ -33,6 +33,7 @@ impl<'a, L: Permutations> Listed<'a, L> {
         let targets = self.list.targets(i);
         let mut came = [false; 64];
         let mut word = [0u8; 64];
+        // The targets are asked by the number of a place.
         for p in 0..self.n {
             let Some(to) = targets.target(p) else {
                 return Err(p);
@@ -51,6 +52,7 @@ impl<'a, L: Permutations> Listed<'a, L> {
         ensures { result ≡ bad_entry self.now.n (L.meaning self.now.list.now).count (L.meaning self.now.list.now).target }
     {
         let zeros = [0u8; 64];
+        // The list is asked by number, and `find_map` is no plainer.
         for i in 0..self.list.count() {
             if let Err(p) = self.take(i, &zeros[..self.n as usize]) {
                 return Some((i, p));

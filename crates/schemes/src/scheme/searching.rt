@@ -2,11 +2,11 @@
 ghost use Rattle.std.specs.Prelude.{◌≡◌, ◌^◌, ◌≤◌, take};
 ghost use Rattle.codes.specs.Code.{message as message_of};
 
-use crate::scheme::words::Code;
+use crate::scheme::words::{Code, Message};
 use symbols::Kind;
 
 // The message of k symbols that reads as x in base q, its first symbol leading.
-fn message(x: u32, q: u8, k: usize) -> [u8; 16]
+fn message(x: u32, q: u8, k: usize) -> Message
     requires { (2 ≤ q) × (k ≤ 16) }
     ensures { take k result ≡ message_of q k x }
 {
@@ -29,6 +29,7 @@ impl<'a, K: Kind> Code<'a, K> {
         ensures { result ≡ light (code_lent K.ring self.now) limit }
     {
         let q = self.kind.order();
+        // A message is its number, and `find` is no plainer.
         for x in 1..count {
             let symbols = message(x, q, self.k);
             if self.is_light(&symbols[..self.k], limit) {

@@ -87,6 +87,7 @@ impl Draft {
     fn decide<K: Kind, L: Permutations>(self, handed: &Handed<K, L>) -> Result<Live, Rejected>
         ensures { Tried (planned self) (handed_lent K.ring L.meaning handed.now) result }
     {
+        // A match, as both answers hand the draft on.
         match self.examine(handed) {
             Ok(()) => Ok(Live {
                 draft: self,
@@ -100,6 +101,7 @@ impl Draft {
     }
 
     // Puts the draft on trial: a live scheme with an empty tally, or the same draft with the first refusal.
+    // Kind, list and rows are apart, as callers hold them.
     pub fn trial<K: Kind, L: Permutations>(
         self,
         kind: &K,

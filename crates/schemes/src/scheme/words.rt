@@ -7,6 +7,9 @@ use symbols::Kind;
 // A word of at most 64 symbols, from place 0 on. It is an array with its length kept by the code, since the product has no heap.
 pub(crate) type Word = [u8; 64];
 
+// A message of at most 16 symbols, likewise.
+pub(crate) type Message = [u8; 16];
+
 // A code as it is handed over: a kind and check rows, for words of n places, the first k of them information places.
 #[derive(Drop)]
 pub(crate) struct Code<'a, K> {
