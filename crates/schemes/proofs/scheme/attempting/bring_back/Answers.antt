@@ -1,8 +1,11 @@
-use Rattle.std.proofs.Common.{◌≡◌, ℕ, ◌<◌, length, Some, sym, ◌∙◌, subst, arith}
+use Rattle.std.proofs.Common.{◌≡◌, ℕ, ◌<◌, length, Some, None, Option, sym, ◌∙◌, subst, arith}
 use Rattle.schemes.proofs.scheme.attempting.bring_back.Goals as goal
 
 held : (a b : ℕ) → Some a ≡ Some b → a ≡ b
 held a b e = cc
+
+never : (a : ℕ) → ◌≡◌ {A = Option ℕ} None (Some a) → ⊥
+never a e = cc
 
 pub bounds-word-to : goal.bounds-word-to
 bounds-word-to c =

@@ -5,12 +5,6 @@ use Rattle.schemes.proofs.scheme.marking.skip.Goals as goal
 pub number_of-head-requires : goal.number_of-head-requires
 number_of-head-requires c = (omega arith, (omega arith, (front_set c.args.n c.args.t c.args.set (omega arith) (omega arith) c.requires.set).0))
 
-pub all_missed-requires : goal.all_missed-requires
-all_missed-requires c = let low = (front_set c.args.n c.args.t c.args.set (omega arith) (omega arith) c.requires.set).1 in omega arith
-
-pub overflow_sub-n : goal.overflow_sub-n
-overflow_sub-n c = let low = (front_set c.args.n c.args.t c.args.set (omega arith) (omega arith) c.requires.set).1 in omega arith
-
 pub returns-then-all_missed : goal.returns-then-all_missed
 returns-then-all_missed c =
     let low = (front_set c.args.n c.args.t c.args.set (omega arith) (omega arith) c.requires.set).1 in

@@ -1,15 +1,8 @@
-use Rattle.std.proofs.Common.{◌≡◌, ℕ, suc, ◌-◌, List, length, get_or, take, drop, sym, ◌∙◌, subst, arith}
-use Rattle.std.proofs.lemmas.List.{drop_all, length-take-le, get_or-take}
+use Rattle.std.proofs.Common.{◌≡◌, ℕ, suc, ◌-◌, length, get_or, take, drop, sym, ◌∙◌, subst, arith}
+use Rattle.std.proofs.lemmas.List.{length-take-le, get_or-take}
 use Rattle.codes.specs.Steps.{Last}
-use Rattle.codes.proofs.Step.{last_more, next_at}
+use Rattle.codes.proofs.Step.{next_at}
 use Rattle.schemes.proofs.scheme.marking.successor.Goals as goal
-
-pub loop-j-init : goal.loop-j-init
-loop-j-init c =
-    let t = c.args.t in
-    let set = c.args.set in
-    let e : length (take t set) ≡ t = length-take-le t set (omega arith) in
-    (omega arith, subst (λ (l : List ℕ). Last c.args.n l) (sym (drop_all t (take t set) (omega arith))) tt)
 
 pub returns-then-can_rise : goal.returns-then-can_rise
 returns-then-can_rise c =
@@ -27,13 +20,3 @@ returns-then-can_rise c =
     (λ k a b. get_or-take t new k 0 (omega arith) ∙ c.run_from.ensures.numbered k a (omega arith) ∙ omega arith)
     (subst (λ (i : ℕ). Last c.args.n (drop i (take t set))) back c.loop-j.invariant.1)
     (omega arith)
-
-pub loop-j-preserved : goal.loop-j-preserved
-loop-j-preserved c =
-    let t = c.args.t in
-    let set = c.args.set in
-    let j = c.loop-j.j in
-    let e : length (take t set) ≡ t = length-take-le t set (omega arith) in
-    let r : get_or (take t set) (j - 1) 0 ≡ get_or set (j - 1) 0 = get_or-take t set (j - 1) 0 (omega arith) in
-    let stays = c.if-can_rise.ensures in
-    (omega arith, last_more c.args.n j (take t set) (omega arith) (omega arith) c.loop-j.invariant.1 (omega arith))

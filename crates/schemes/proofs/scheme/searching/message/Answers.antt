@@ -1,9 +1,6 @@
-use Rattle.std.proofs.Common.{refl, ◌∙◌, arith, length-set}
-use Rattle.codes.proofs.Messages.{message-none, message_more}
+use Rattle.std.proofs.Common.{◌∙◌, arith, length-set}
+use Rattle.codes.proofs.Messages.{message_more}
 use Rattle.schemes.proofs.scheme.searching.message.Goals as goal
-
-pub loop-i-init : goal.loop-i-init
-loop-i-init c = let d = message-none c.args.q c.args.k c.args.x _ (omega arith) in (refl, omega arith, d.0, d.1)
 
 pub loop-i-preserved : goal.loop-i-preserved
 loop-i-preserved c =

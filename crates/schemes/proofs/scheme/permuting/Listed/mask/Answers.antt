@@ -1,14 +1,8 @@
 use Rattle.std.proofs.Common.{◌≡◌, ℕ, ◌+◌, Bool, ltb, sym, ◌∙◌, subst, arith, le-ltb, lt-ltb}
-use Rattle.lists.proofs.Replies.{replied, unreplied}
+use Rattle.lists.proofs.Replies.{replied}
 use Rattle.codes.proofs.Mask.{Grown, grown_set, grown_clear}
 use Rattle.schemes.proofs.scheme.permuting.Listed.mask.Goals as goal
 use Rattle.schemes.proofs.scheme.permuting.Listed.mask.Goals.{then-to-k, else-to-k}
-
-pub unreachable-requires : goal.unreachable-requires
-unreachable-requires g c =
-    let M = g.L.Permutations.meaning c.args.self.now.list.now in
-    let gone = unreplied M c.args.i c.loop-p.p (omega arith) (c.in_default.ensures ∙ c.targets-targets.ensures c.loop-p.p (omega arith)) in
-    omega arith
 
 pub loop-p-preserved : goal.loop-p-preserved
 loop-p-preserved g c =

@@ -1,19 +1,13 @@
 use Rattle.std.proofs.Common.{◌≡◌, ◌∙◌, subst, arith}
 use Rattle.lists.specs.Meaning.{Meaning}
-use Rattle.lists.proofs.Replies.{replied, unreplied, reply_within}
-use Rattle.schemes.proofs.Taking.{Moving, bad_high, bad_twice, moving_none, moving_more, moving_all}
+use Rattle.lists.proofs.Replies.{replied, reply_within}
+use Rattle.schemes.proofs.Taking.{Moving, bad_high, bad_twice, moving_none, moving_all}
 use Rattle.schemes.proofs.scheme.permuting.Listed.take.Goals as goal
 use Rattle.schemes.proofs.scheme.permuting.Listed.take.Goals.{then-to-self-via-then-to-self, then-to-self-via-else-to-self+then-came-to}
 
 pub loop-p-init : goal.loop-p-init
 loop-p-init g c =
     moving_none c.args.self.now.n ((g.L.Permutations.meaning c.args.self.now.list.now).target c.args.i) c.args.self.now.few c.args.v.now
-
-pub returns-in_default : goal.returns-in_default
-returns-in_default g c =
-    let M : Meaning = g.L.Permutations.meaning c.args.self.now.list.now in
-    let gone = unreplied M c.args.i c.loop-p.p (omega arith) (c.in_default.ensures ∙ c.targets-targets.ensures c.loop-p.p (omega arith)) in
-    absurd (omega arith)
 
 pub returns-then-to-self : goal.returns-then-to-self
 returns-then-to-self g c =
@@ -26,13 +20,6 @@ returns-then-to-self g c =
       | then-to-self-via-then-to-self w ↦ bad_high n (M.target c.args.i) few p c.in-Some.to c.loop-p.came (omega arith) there.2 (omega arith) c.loop-p.invariant.come
       | then-to-self-via-else-to-self+then-came-to w ↦ bad_twice n (M.target c.args.i) few p c.in-Some.to c.loop-p.came (omega arith) there.2 (omega arith) w.if-came-to.true c.loop-p.invariant.come
     ]
-
-pub loop-p-preserved : goal.loop-p-preserved
-loop-p-preserved g c =
-    let M : Meaning = g.L.Permutations.meaning c.args.self.now.list.now in
-    let p = c.loop-p.p in
-    let there = replied M c.args.i p c.in-Some.to (c.in-Some.ensures ∙ c.targets-targets.ensures p (omega arith)) in
-    moving_more c.args.self.now.n (M.target c.args.i) c.args.self.now.few p c.in-Some.to c.loop-p.came c.args.v.now c.loop-p.word there.2 (omega arith) c.if-came-to.false c.loop-p.invariant
 
 pub returns : goal.returns
 returns g c =
