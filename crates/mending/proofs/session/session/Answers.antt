@@ -1,4 +1,4 @@
-use Rattle.std.proofs.Common.{◌≡◌, ℕ, ◌+◌, ◌*◌, ◌<◌, List, [], ◌∷◌, ◌++◌, min, length, drop, vec_items, sym, refl, ap, ◌∙◌, subst, arith, length-drop}
+use Rattle.std.proofs.Common.{◌≡◌, ℕ, ◌+◌, ◌*◌, ◌<◌, List, ◌∷◌, ◌++◌, min, length, drop, vec_items, sym, ap, ◌∙◌, subst, arith, length-drop}
 use Rattle.promises.specs.Scheme.{Scheme, Handed, Counts}
 use Rattle.promises.specs.Calls.{correct}
 use Rattle.schemes.specs.Told.{kept, tallied}
@@ -17,23 +17,6 @@ added_as S S' h h' number number' v v' c after before text e f g k a =
     (subst (λ (j : Handed). Added S j number' v' c after before text) f
     (subst (λ (i : ℕ). Added S h i v' c after before text) g
     (subst (λ (u : List ℕ). Added S h number u c after before text) k a)))
-
-pub loop-i-init : goal.loop-i-init
-loop-i-init c =
-    let S : Scheme = kept c.args.opened.live in
-    let h : Handed = handed_held c.args.opened in
-    let bytes = c.args.bytes.now in
-    let n = c.places-n.result in
-    let it = c.into_iter-i-iterator.result in
-    let start : it.count ≡ 0 = cc in
-    let whole : it.iter.rest.now ≡ bytes = cc in (
-      cc,
-      whole ∙ sym (ap (λ (k : ℕ). drop (k * n) bytes) start ∙ ap (λ (m : ℕ). drop m bytes) (let z : 0 * n ≡ 0 = omega arith in z)),
-      omega arith,
-      refl,
-      refl,
-      ([], subst (λ (i : ℕ). Session S h bytes i [] (tallied c.args.opened.live) (vec_items c.new-text.result)) (sym start) (refl, c.requires.starts, c.new-text.ensures.items)),
-    )
 
 pub loop-i-preserved : goal.loop-i-preserved
 loop-i-preserved c =
