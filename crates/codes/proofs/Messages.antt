@@ -1,7 +1,7 @@
 -- Messages and the numbers that they stand for.
-use Rattle.std.proofs.Common.{◌≡◌, ℕ, zero, suc, ◌+◌, ◌-◌, ◌*◌, ◌/◌, ◌%◌, ◌^◌, ◌<◌, ◌≤◌, List, [], ◌∷◌, length, get_or, take, drop, set, sym, refl, ap, ◌∙◌, ⊎_elim, mod-lt, mod-eq_of_lt, mul_assoc, suc-mul, mul_comm, pow-suc, div-one, arith}
+use Rattle.std.proofs.Common.{◌≡◌, ℕ, zero, suc, ◌+◌, ◌-◌, ◌*◌, ◌/◌, ◌%◌, ◌^◌, ◌<◌, ◌≤◌, List, [], ◌∷◌, length, get_or, take, drop, set, sym, refl, ap, ◌∙◌, ⊎_elim, mod-lt, mod-eq_of_lt, mul_assoc, suc-mul, mul_comm, pow-suc, arith}
 use native.Mathlib.Nat.{pow-zero, div-div-eq-div-mul, div-add-mod, add-mul-div_left, add-mul-mod_self_left}
-use Rattle.std.proofs.lemmas.List.{drop-set, drop_all, length-take-le}
+use Rattle.std.proofs.lemmas.List.{drop-set, length-take-le}
 use Rattle.std.proofs.lemmas.Nat.{mul-le, div-mul-add, div_below}
 use Rattle.std.proofs.lemmas.Bool.{cases_eq}
 use Rattle.codes.specs.Code.{message, Symbols}
@@ -25,13 +25,6 @@ take-set-lt zero xs i v h = absurd (omega arith)
 take-set-lt (suc k) [] i v h = refl
 take-set-lt (suc k) (x ∷ xs) zero v h = refl
 take-set-lt (suc k) (x ∷ xs) (suc i) v h = ap (λ (ys : List ℕ). x ∷ ys) (take-set-lt k xs i v (omega arith))
-
-pub message-none : (q k x : ℕ) (xs : List ℕ) → k ≤ length xs → (x ≡ x / q ^ (k - k)) × (drop k (take k xs) ≡ message q (k - k) x)
-message-none q k x xs h =
-    let z : k - k ≡ 0 = omega arith in (
-      sym (ap (λ (j : ℕ). x / q ^ j) z ∙ ap (λ (y : ℕ). x / y) (pow-zero q) ∙ div-one x),
-      drop_all k (take k xs) (omega (arith, length-take-le k xs h)) ∙ sym (ap (λ (j : ℕ). message q j x) z),
-    )
 
 -- one digit more, from the last on
 pub message_more : (q k i x rest : ℕ) (xs : List ℕ) → 0 < i → i ≤ k → k ≤ length xs → rest ≡ x / q ^ (k - i) → drop i (take k xs) ≡ message q (k - i) x → (rest / q ≡ x / q ^ (k - (i - 1))) × (drop (i - 1) (take k (set xs (i - 1) (rest % q))) ≡ message q (k - (i - 1)) x)

@@ -1,14 +1,6 @@
 -- The successor's array, place by place, is the next set.
-use Rattle.std.proofs.Common.{◌≡◌, ℕ, zero, suc, ◌+◌, ◌-◌, ◌<◌, ◌≤◌, List, [], ◌∷◌, length, get_or, drop, sym, refl, ap, ◌∙◌, subst, inl, inr, arith, length-drop}
-use Rattle.std.proofs.lemmas.List.{drop_more}
+use Rattle.std.proofs.Common.{◌≡◌, ℕ, zero, suc, ◌+◌, ◌-◌, ◌<◌, ◌≤◌, List, [], ◌∷◌, length, get_or, drop, sym, refl, inl, inr, arith}
 use Rattle.codes.specs.Steps.{run, Last, Next}
-
--- one place more at its end
-pub last_more : (n j : ℕ) (xs : List ℕ) → 0 < j → j ≤ length xs → Last n (drop j xs) → n ≤ get_or xs (j - 1) 0 + (length xs - (j - 1)) → Last n (drop (j - 1) xs)
-last_more n j xs h k l top =
-    let same : j - 1 + 1 ≡ j = omega arith in
-    subst (λ (ys : List ℕ). Last n ys) (sym (drop_more xs (j - 1) 0 (omega arith) ∙ ap (λ (i : ℕ). get_or xs (j - 1) 0 ∷ drop i xs) same))
-    (omega (arith, length-drop j xs), l)
 
 -- a list that counts up is a run
 pub run_is : (f : ℕ) (ys : List ℕ) (k : ℕ) → length ys ≡ k → ((i : ℕ) → i < k → get_or ys i 0 ≡ f + i) → ys ≡ run f k

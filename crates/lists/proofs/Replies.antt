@@ -27,10 +27,6 @@ module _ (M : Meaning) (i : ℕ) where
   pub replied : (p x : ℕ) → Some x ≡ reply M i p → (i < M.count) × (p < M.places) × (x ≡ M.target i p)
   replied p x e = grind (arith, nat_tests)
 
-  -- a reply that is absent within the length: there is no such number
-  pub unreplied : (p : ℕ) → p < M.places → None ≡ reply M i p → M.count ≤ i
-  unreplied p h e = grind (arith, nat_tests)
-
   -- the targets of the first places
   abbrev pub Asked : ℕ → List ℕ → Type 0
   Asked p places = (r : ℕ) → r < p → (i < M.count) × (get_or places r 0 ≡ M.target i r)

@@ -1,8 +1,8 @@
 -- Words that are taken by a permutation, and the positions that show that there is none.
-use Rattle.std.proofs.Common.{◌≡◌, ℕ, ◌+◌, ◌<◌, ◌≤◌, Bool, true, false, eqb, ◌≢◌, List, length, get_or, take, set, replicate, is_some, Some, sym, refl, ap, ◌∙◌, ⊎_elim, arith, length-set, below_more}
+use Rattle.std.proofs.Common.{◌≡◌, ℕ, ◌<◌, ◌≤◌, Bool, true, false, eqb, List, length, get_or, take, replicate, is_some, Some, sym, refl, ap, ◌∙◌, arith}
 use lib.ListN.{get_or-replicate}
-use Rattle.std.proofs.lemmas.List.{get_or-set_same, get_or-set_other, get_or-take, length-take-le}
-use Rattle.std.proofs.lemmas.Bool.{true≢false, cases_eq, eq-eqb, ne_eqb}
+use Rattle.std.proofs.lemmas.List.{get_or-take, length-take-le}
+use Rattle.std.proofs.lemmas.Bool.{true≢false, eq-eqb, ne_eqb}
 use Rattle.lists.specs.Told.{told}
 use Rattle.codes.specs.Code.{Permutation}
 use Rattle.codes.specs.Offenders.{clashes, bad_place}
@@ -36,31 +36,6 @@ module _ (n : ℕ) (σ : ℕ → ℕ) (few : n ≤ 64) where
     once = λ a b h _ _. absurd (omega arith);
   }
 
-  -- a target that has not come is no target of an earlier position
-  fresh : (p to : ℕ) (came : List Bool) → get_or came to false ≡ false → Come n σ p came → (r : ℕ) → r < p → σ r ≢ to
-  fresh p to came free c r h e = true≢false (sym (c.comes r h) ∙ ap (λ s. get_or came s false) e ∙ free)
-
-  come_more : (p to : ℕ) (came : List Bool) → to ≡ σ p → to < n → get_or came to false ≡ false → Come n σ p came → Come n σ (p + 1) (set came to true)
-  come_more p to came is low free c = record {
-    long = length-set came to true ∙ c.long;
-    below = below_more _ _ c.below (omega arith);
-    comes = below_more _ _
-        (λ r h. get_or-set_other came to (σ r) true false (fresh p to came free c r h) ∙ c.comes r h)
-        (ap (λ s. get_or (set came to true) s false) (sym is) ∙ get_or-set_same came to true false (omega (arith, c.long)));
-    back = λ s h e. ⊎_elim
-        (λ q. (p, omega arith, sym is ∙ sym q))
-        (λ ne. let old = c.back s h (sym (get_or-set_other came to s true false ne) ∙ e) in (old.0, omega arith, old.2))
-        (cases_eq s to);
-    once = once_more;
-  }
-    where
-      once_more : (a b : ℕ) → a < p + 1 → b < p + 1 → σ a ≡ σ b → a ≡ b
-      once_more a b ha hb e =
-          ⊎_elim
-          (λ x. ⊎_elim (λ y. x ∙ sym y) (λ y. absurd (fresh p to came free c b (omega arith) (sym e ∙ ap σ x ∙ sym is))) (cases_eq b p))
-          (λ x. ⊎_elim (λ y. absurd (fresh p to came free c a (omega arith) (e ∙ ap σ y ∙ sym is))) (λ y. c.once a b (omega arith) (omega arith) e) (cases_eq b p))
-          (cases_eq a p)
-
   -- no earlier position clashes
   clear : (p : ℕ) (came : List Bool) → Come n σ p came → (r : ℕ) → r < p → clashes n σ r ≡ false
   clear p came c r h =
@@ -84,16 +59,6 @@ module _ (n : ℕ) (σ : ℕ → ℕ) (few : n ≤ 64) where
 
   pub moving_none : (v : List ℕ) → Moving n σ 0 (replicate 64 false) v (replicate 64 0)
   moving_none v = record { come = come_none; long = refl; moves = λ r h. absurd (omega arith) }
-
-  pub moving_more : (p to : ℕ) (came : List Bool) (v word : List ℕ) → to ≡ σ p → to < n → get_or came to false ≡ false
-      → Moving n σ p came v word → Moving n σ (p + 1) (set came to true) v (set word to (get_or v p 0))
-  moving_more p to came v word is low free m = record {
-    come = come_more p to came is low free m.come;
-    long = length-set word to (get_or v p 0) ∙ m.long;
-    moves = below_more _ _
-        (λ r h. get_or-set_other word to (σ r) (get_or v p 0) 0 (fresh p to came free m.come r h) ∙ m.moves r h)
-        (ap (λ s. get_or (set word to (get_or v p 0)) s 0) (sym is) ∙ get_or-set_same word to (get_or v p 0) 0 (omega (arith, m.long)));
-  }
 
   pub moving_all : (came : List Bool) (v : List ℕ) (x : Taken) → ((p : ℕ) → p < n → told x.targets p ≡ Some (σ p)) → Moving n σ n came v x.word → Takes n σ v x
   moving_all came v x goes m =
