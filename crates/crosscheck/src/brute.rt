@@ -62,7 +62,7 @@ fn check_symbol<K: Kind>(kind: &K, rows: &[u8], width: usize, message: &[u8], j:
         .fold(0, |sum, (code, u)| kind.sum(kind.product(*u, *code), sum))
 }
 
-// Appends the check symbols of a message.
+// Appends the check symbols of a message. The rows are lent, and no field of a book, since its words are all that is asked for later.
 fn put_checks<K: Kind>(
     words: &mut Vec<u8>,
     kind: &K,
@@ -86,6 +86,7 @@ impl Book {
         let mut words = Vec::new(heap);
         let mut message = vec![in heap; 0u8; size.k as usize]?;
         let width = (size.n - size.k) as usize;
+        // As often as there are messages; `message` itself counts.
         for _ in 0..(kind.order() as u32).saturating_pow(size.k as u32) {
             words.extend_from_slice(&message)?;
             put_checks(&mut words, kind, rows, width, &message)?;
@@ -140,6 +141,7 @@ fn put_bits(rows: &mut Vec<u8>, row: u64, degree: u8) -> Result<(), AllocError>
 pub fn cyclic_rows(heap: Global, size: Size, generator: u32) -> Result<Vec<u8>, AllocError> {
     let degree = size.n - size.k;
     let mut rows = Vec::new(heap);
+    // Row i is a number's: `extend` in `put_bits` can fail, so no closure goes round it.
     for i in 0..size.k {
         let row = power_of_x(size.n - 1 - i, generator, degree);
         put_bits(&mut rows, row, degree)?;

@@ -106,7 +106,7 @@ impl<'a, K: Kind, L: Permutations> Comparison<'a, K, L> {
         }
     }
 
-    // Compares one block, the first n symbols of the given ones.
+    // Compares one block, the first n symbols of the given ones. Arrays of 64 symbols, as no block is longer and none is kept.
     fn one(&mut self, symbols: &[u8; 64]) {
         let n = self.book.size.n as usize;
         let mut out = [0u8; 64];
@@ -119,6 +119,7 @@ impl<'a, K: Kind, L: Permutations> Comparison<'a, K, L> {
     fn every_block(&mut self) {
         let q = self.kind.order();
         let count = (q as u32).saturating_pow(self.book.size.n as u32);
+        // A block is its number.
         for x in 0..count.min(100_000) {
             self.one(&numbered(x, q));
             self.found.near = self.found.near.saturating_add(1);
@@ -155,6 +156,7 @@ impl<'a, K: Kind, L: Permutations> Comparison<'a, K, L> {
     // Random patterns: 100 of at most t errors, then 100 of about t + 1 to t + 4.
     fn samples(&mut self) {
         let mut seed = 1u32;
+        // The number decides how many errors there are.
         for i in 0..200u32 {
             let more = if i < 100 { 0 } else { 1 + (i % 4) as u8 };
             let (mask, next) = scattered(seed, self.book.size.n, self.book.size.t + more);

@@ -64,7 +64,7 @@ fn cyclic_code(n: u8, k: u8, t: u8, generator: u32, powers: u8) -> Result<Cyclic
     })
 }
 
-// Compares both decoders on blocks of a code, and prints a line.
+// Compares both decoders on blocks of a code, and prints a line. Kind, list and rows go on to the trial, so a struct of them is no plainer.
 fn compare_code<K: Kind, L: Permutations>(
     rt: &HostRuntime,
     label: &str,
@@ -96,7 +96,7 @@ fn compare_cyclic(rt: &HostRuntime, code: Cyclic) -> Result<(), Failure> {
     compare_code(rt, &label, size, &kind, &list, &rows, Blocks::Patterns)
 }
 
-// Every block of a small code.
+// Every block of a small code. Its parameters are those of `compare_code`.
 fn compare_small<K: Kind, L: Permutations>(
     rt: &HostRuntime,
     name: &str,

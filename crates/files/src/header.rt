@@ -13,7 +13,7 @@ use faults::Fault;
 use std::ops::RangeInclusive;
 
 // How many bytes stand before a form's own.
-pub const HEADER: usize = 13;
+pub(crate) const HEADER: usize = 13;
 
 // The first three bytes.
 const MARK: [u8; 3] = *b"PDS";
@@ -22,7 +22,7 @@ const VERSION: u16 = 1;
 
 // The form that the header names. What the form holds stands after the header.
 #[derive(Clone, Copy)]
-pub enum FormKind {
+pub(crate) enum FormKind {
     Table,
     Shifts,
     Multiplier,
@@ -32,7 +32,7 @@ impl FormKind {
     ghost use Rattle.files.specs.Header.{kind_number};
 
     // How many bytes of the form's own stand before the check rows.
-    pub fn own_size(self) -> usize
+    pub(crate) fn own_size(self) -> usize
         ensures { result ≡ value_size (kind_number self) }
     {
         match self {
@@ -77,7 +77,7 @@ impl TryFrom<u8> for FormKind {
 
 // The fields of a header that has passed the checks of `Header::fields`.
 #[derive(Clone, Copy)]
-pub struct Header {
+pub(crate) struct Header {
     pub family: Family,
     pub base: u8,
     pub n: u8,
@@ -92,7 +92,7 @@ impl Header {
     ghost use Rattle.files.specs.Header.{fields};
 
     // The header of a file that has the mark and the version, and fields within their values.
-    pub fn read(file: &[u8]) -> Result<Header, Fault>
+    pub(crate) fn read(file: &[u8]) -> Result<Header, Fault>
         ensures { MatchResult result (λ h. (head_refusal file.now ≡ None) × (fields h ≡ fields_at file.now)) (λ e. head_refusal file.now ≡ Some (refusal e)) }
     {
         if file.len() < HEADER {
@@ -108,7 +108,7 @@ impl Header {
     }
 
     // Reads the fields in the order of their bytes. The first byte that is outside its values is refused.
-    pub fn fields(bytes: &[u8]) -> Result<Header, Fault>
+    pub(crate) fn fields(bytes: &[u8]) -> Result<Header, Fault>
         requires { 13 ≤ length bytes.now }
         ensures { MatchResult result (λ h. (wrong_field (fields_at bytes.now) ≡ None) × (fields h ≡ fields_at bytes.now)) (λ e. refuse_field (wrong_field (fields_at bytes.now)) None ≡ Some (refusal e)) }
     {
@@ -137,7 +137,7 @@ impl Header {
     }
 
     // How many bytes the check rows have.
-    pub fn rows_size(&self) -> usize
+    pub(crate) fn rows_size(&self) -> usize
         ensures value { result ≡ rows_size (fields self.now) }
         ensures bound { result < 65536 }
     {
@@ -145,7 +145,7 @@ impl Header {
     }
 
     // How many bytes the table has.
-    pub fn table_size(&self) -> usize
+    pub(crate) fn table_size(&self) -> usize
         ensures value { result ≡ table_size (fields self.now) }
         ensures bound { result < 16777216 }
     {
@@ -155,7 +155,7 @@ impl Header {
         }
     }
 
-    pub fn file_length(&self) -> usize
+    pub(crate) fn file_length(&self) -> usize
         ensures { result ≡ file_length (fields self.now) }
     {
         HEADER + self.form.own_size() + self.rows_size() + self.table_size()
@@ -193,7 +193,7 @@ fn is_marked(file: &[u8]) -> bool
 }
 
 // The header of the scheme's file. Its fields can be outside their values.
-pub fn head_bytes(scheme: &SchemeFile) -> [u8; HEADER]
+pub(crate) fn head_bytes(scheme: &SchemeFile) -> [u8; HEADER]
     ensures bytes { result ≡ head_bytes (fields_of (contents scheme.now)) }
     ensures fields { fields_at result ≡ fields_of (contents scheme.now) }
 {

@@ -16,7 +16,7 @@ mod tests {
     use std::process::Abort;
     use std::test::Fail;
 
-    // Number and first place of the refusal, or 0 and 0.
+    // Number and first place of the refusal, which are what is tested, or 0 and 0. A crate for this line and its like is no plainer.
     fn refused<T: Drop>(answer: Result<T, Fault>) -> (u8, u64) {
         answer
             .err()

@@ -83,7 +83,7 @@ fn residues_once_each(rt: HostRuntime) -> Result<(), Fail> {
     Ok(())
 }
 
-// A refusal by number and places; all 0 stands for none. Other test crates have it, too: a crate for one line is no plainer.
+// A refusal by number and places, which are what is tested; all 0 stands for none. Other test crates have it, too: a crate for one line is no plainer.
 fn told<T: Drop>(answer: Result<T, Fault>) -> (u8, u64, u64) {
     answer.err().map_or(
         (0, 0, 0),

@@ -110,7 +110,7 @@ mod tests {
         }
     }
 
-    // 0 for a table, or the number of the refusal.
+    // 0 for a table, or the number of the refusal, which is what is tested.
     fn refusal(n: u8, part: &[u8]) -> u8 {
         Table::new(n, part).err().map_or(0, |fault| fault.number())
     }

@@ -27,7 +27,7 @@ pub struct Targets {
 }
 
 impl Targets {
-    // What a list tells of a number that it does not have.
+    // What a list tells of a number that it does not have: no target at all. An `Option` of targets would be asked twice, and is no plainer.
     fn none() -> Targets
         ensures { result.n ≡ 0 }
     {

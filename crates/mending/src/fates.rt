@@ -13,6 +13,7 @@ pub(crate) enum Fate {
     Clean,
     Mended { distance: u8 },
     Lost,
+    // Its number alone is printed.
     Refused { number: u8 },
 }
 

@@ -21,7 +21,7 @@ fn add(
     ensures keeps { (kept opened.new.live ≡ kept opened.old.live) × (handed_held opened.new ≡ handed_held opened.old) }
     ensures added { OnOk result (Added (kept opened.old.live) (handed_held opened.old) number block.now (tallied opened.old.live) (tallied opened.new.live) text.old.items text.new.items) }
 {
-    // A block has at most 64 symbols.
+    // A fixed array: a block has at most 64 symbols, and memory asked for here could fail.
     let mut word = [0u8; 64];
     let out = &mut word[..opened.places() as usize];
     let answer = opened.correct(block, out);

@@ -4,7 +4,7 @@ use lists::Permutations;
 use schemes::{Draft, Live};
 use symbols::Kind;
 
-// A refusal as its number and places; all 0 stands for an answer that is none. Other test crates have it, too: a crate for one line is no plainer.
+// A refusal as its number and places, which are what is tested; all 0 stands for an answer that is none. Other test crates have it, too: a crate for one line is no plainer.
 pub(crate) type Told = (u8, u64, u64);
 
 pub(crate) const LIVE: Told = (0, 0, 0);
@@ -16,7 +16,7 @@ pub(crate) fn told<T: Drop>(answer: Result<T, Fault>) -> Told {
     )
 }
 
-// A live scheme, or what refused it.
+// A live scheme, or what refused it. The parameters are those of the calls.
 pub(crate) fn live<K: Kind, L: Permutations>(
     kind: &K,
     list: &L,

@@ -152,6 +152,7 @@ pub struct TwoPower {
 }
 
 impl TwoPower {
+    // Not one function with `Residues::new`: the rings and the numbers that are refused differ.
     pub fn new(w: u8) -> Result<TwoPower, Fault>
         ensures { MatchResult result (λ k. (2 ≤ w) × (w ≤ 4) × (k.w ≡ w)) (λ e. (refusal e ≡ refuse 1 0 0) × ((2 ≤ w) × (w ≤ 4) → ⊥)) }
     {

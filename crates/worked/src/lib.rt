@@ -8,7 +8,7 @@ ghost use Rattle.worked.specs.Worked.{Worked};
 #[cfg(test)]
 mod tests;
 
-// Scheme files, with blocks for some of them. The binary code has 7 places, 4 of them information places, and the check rows 110, 011, 111, 101.
+// Scheme files, with blocks for some of them, each array whole. The binary code has 7 places, 4 of them information places, and the check rows 110, 011, 111, 101.
 #[derive(Clone, Copy)]
 pub struct Schemes {
     // The binary code with 5 shifts of step 1, and a block that its attempt 4 mends.

@@ -11,7 +11,7 @@ fn corrected(file: &[u8], block: &[u8], out: &mut [u8]) -> Result<(u8, u16), Fau
     Opened::new(file)?.correct(block, out)
 }
 
-// A refusal by number and places; all 0 stands for none. Other test crates have it, too: a crate for one line is no plainer.
+// A refusal by number and places, which are what is tested; all 0 stands for none. Other test crates have it, too: a crate for one line is no plainer.
 fn told(answer: Result<(u8, u16), Fault>) -> (u8, u64, u64) {
     answer.err().map_or(
         (0, 0, 0),

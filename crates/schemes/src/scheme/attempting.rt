@@ -9,7 +9,8 @@ use crate::scheme::words::{Code, Message, Word};
 use lists::{Permutations, Targets};
 use symbols::Kind;
 
-// What correct works with: a code, a list for its places, and up to t errors.
+// What correct works with: a code, a list for its places, and up to t errors. Code and list each have n, as each works without the other.
+// A type for a block of symbols of this code would hold the code once more, so its methods ask for that instead.
 #[derive(Drop)]
 pub(crate) struct Fitted<'c, 'l, K, L: Permutations> {
     pub(crate) code: Code<'c, K>,
@@ -34,7 +35,7 @@ fn bring_back(word: &[u8], targets: &Targets) -> Word
     ensures { (p to : ℕ) → p < length word.now → told targets.now p ≡ Some to → slice_index result p ≡ slice_index word.now to }
 {
     let mut back = [0u8; 64];
-    // The targets are asked by the number of a place.
+    // Not plainer over `iter_mut`: the targets are asked by the number of a place.
     for p in 0..word.len() {
         let Some(to) = targets.target(p as u8) else {
             return unreachable();
@@ -69,6 +70,7 @@ impl<'c, 'l, K: Kind, L: Permutations> Fitted<'c, 'l, K, L> {
             × Candidate (code_lent K.ring self.now.code) (L.meaning self.now.list.list.now).target v.now x) }
     {
         let n = self.code.n;
+        // Not plainer with `.ok()?`: what `take` ensures of both its answers would be read through an `Option`.
         let Ok(taken) = self.list.take(i, v) else {
             return None;
         };

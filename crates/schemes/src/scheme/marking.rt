@@ -11,6 +11,8 @@ use lists::Permutations;
 // The places of a set, of which there are at most five: a small array by value, with t beside it, as each step answers a new set.
 type Places = [u8; 5];
 
+// A struct of set, t and n would have to say in the contract of each step that t and n stay, so it is no plainer.
+
 // The set with the places from number j to t replaced by those from `first` on.
 fn run_from(set: Places, j: usize, t: usize, first: u8) -> Places
     requires { (j ≤ t) × ((t ≤ 5) × (first + 5 < 256)) }
@@ -18,9 +20,8 @@ fn run_from(set: Places, j: usize, t: usize, first: u8) -> Places
     ensures numbered { (i : ℕ) → j ≤ i → i < t → slice_index result i ≡ first + (i - j) }
 {
     let mut next = set;
-    // The number l is written, too.
-    for l in j..t {
-        next[l] = first + (l - j) as u8;
+    for (l, place) in next[j..t].iter_mut().enumerate() {
+        *place = first + l as u8;
     }
     next
 }
@@ -53,6 +54,7 @@ fn number_of(set: Places, t: usize, n: u8) -> u64
     ensures { result ≡ bits (take t set) }
 {
     let mut sum = 0u64;
+    // Not plainer as `fold`.
     for place in &set[..t] {
         sum |= 1 << *place;
     }
@@ -132,7 +134,7 @@ impl<'a, L: Permutations> Listed<'a, L> {
     {
         let targets = self.list.targets(i);
         let mut mask = 0u64;
-        // The targets are asked by the number of a place.
+        // The targets are asked by number, and a closure could not leave, so `fold` is no plainer.
         for p in 0..self.n {
             let Some(to) = targets.target(p) else {
                 return unreachable();
@@ -149,9 +151,9 @@ impl<'a, L: Permutations> Listed<'a, L> {
         ensures { (i : ℕ) → i < (L.meaning self.now.list.now).count → MaskOf self.now.n k ((L.meaning self.now.list.now).target i) (slice_index result i) }
     {
         let mut masks = [0u64; 512];
-        // The list is asked by number.
-        for i in 0..self.list.count() {
-            masks[i as usize] = self.mask(i, k);
+        let m = self.list.count() as usize;
+        for (i, mask) in masks[..m].iter_mut().enumerate() {
+            *mask = self.mask(i as u16, k);
         }
         masks
     }

@@ -4,7 +4,8 @@ ghost use Rattle.std.specs.Prelude.{◌≡◌, ℕ, ◌<◌, ◌≤◌, length, 
 use crate::scheme::words::Word;
 use lists::{Permutations, Targets};
 
-// A list as it is handed over, for words of n places.
+// A list as it is handed over, for words of n places. Its methods ask for numbers below the list's count: a type for these would hold the list
+// once more, and is no plainer.
 #[derive(Drop)]
 pub(crate) struct Listed<'a, L: Permutations> {
     pub(crate) list: &'a L,
@@ -33,11 +34,9 @@ impl<'a, L: Permutations> Listed<'a, L> {
         let targets = self.list.targets(i);
         let mut came = [false; 64];
         let mut word = [0u8; 64];
-        // The targets are asked by the number of a place.
+        // Not plainer over the symbols of v: the number p is asked for, and refused.
         for p in 0..self.n {
-            let Some(to) = targets.target(p) else {
-                return Err(p);
-            };
+            let to = targets.target(p).ok_or(p)?;
             if to >= self.n || came[to as usize] {
                 return Err(p);
             }

@@ -12,6 +12,7 @@ fn message(x: u32, q: u8, k: usize) -> Message
 {
     let mut symbols = [0u8; 16];
     let mut rest = x;
+    // Tried with `iter_mut().rev()`: the proof knows no items of that iterator, and did not close.
     for i in (0..k).rev() {
         symbols[i] = (rest % q as u32) as u8;
         rest /= q as u32;

@@ -50,6 +50,7 @@ impl Draft {
         let Some(count) = message_count(self.q, self.k) else {
             return unreachable();
         };
+        // As in `correct`: a function for both would have to state each field once more.
         let fitted = Fitted {
             code: Code {
                 kind: handed.kind,

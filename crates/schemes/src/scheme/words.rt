@@ -11,6 +11,7 @@ pub(crate) type Word = [u8; 64];
 pub(crate) type Message = [u8; 16];
 
 // A code as it is handed over: a kind and check rows, for words of n places, the first k of them information places.
+// Its methods ask for messages of k symbols: a type for these would hold k once more, and is no plainer.
 #[derive(Drop)]
 pub(crate) struct Code<'a, K> {
     pub(crate) kind: &'a K,

@@ -1,4 +1,4 @@
-use Rattle.std.proofs.Common.{◌≡◌, ◌∙◌, subst, arith}
+use Rattle.std.proofs.Common.{◌≡◌, sym, ◌∙◌, subst, arith}
 use Rattle.lists.specs.Meaning.{Meaning}
 use Rattle.lists.proofs.Replies.{replied, reply_within}
 use Rattle.schemes.proofs.Taking.{Moving, bad_high, bad_twice, moving_none, moving_all}
@@ -15,10 +15,10 @@ returns-then-to-self g c =
     let n = c.args.self.now.n in
     let few = c.args.self.now.few in
     let p = c.loop-p.p in
-    let there = replied M c.args.i p c.in-Some.to (c.in-Some.ensures ∙ c.targets-targets.ensures p (omega arith)) in
+    let there = replied M c.args.i p c.in_ok-to.to (sym c.in_ok-to.ensures.ok_part ∙ c.target.ensures ∙ c.targets-targets.ensures p (omega arith)) in
     elim c.then-to-self.branch [
-      | then-to-self-via-then-to-self w ↦ bad_high n (M.target c.args.i) few p c.in-Some.to c.loop-p.came (omega arith) there.2 (omega arith) c.loop-p.invariant.come
-      | then-to-self-via-else-to-self+then-came-to w ↦ bad_twice n (M.target c.args.i) few p c.in-Some.to c.loop-p.came (omega arith) there.2 (omega arith) w.if-came-to.true c.loop-p.invariant.come
+      | then-to-self-via-then-to-self w ↦ bad_high n (M.target c.args.i) few p c.in_ok-to.to c.loop-p.came (omega arith) there.2 (omega arith) c.loop-p.invariant.come
+      | then-to-self-via-else-to-self+then-came-to w ↦ bad_twice n (M.target c.args.i) few p c.in_ok-to.to c.loop-p.came (omega arith) there.2 (omega arith) w.if-came-to.true c.loop-p.invariant.come
     ]
 
 pub returns : goal.returns
