@@ -62,5 +62,6 @@ module _ (S : Scheme) (h : Handed) (bytes : List ℕ) where
         lines = lines;
         session = s;
         whole = e;
-        counts = subst (λ (vs : List (List ℕ)). Counting S h vs c) (session_blocks promise.accepts n calls c lines s) (promise.counts calls c (session_runs n calls c lines s, session_faithful n calls c lines s));
+        promised = promise;
+        counts = subst (λ (vs : List (List ℕ)). Counting S h vs c) (session_blocks promise.accepts n calls c lines s) (promise.counts calls c (session_runs n calls c lines s) (session_faithful n calls c lines s));
       }

@@ -1,5 +1,5 @@
 -- The promise of a live scheme, by induction over runs.
-use Rattle.std.proofs.Common.{◌≡◌, ℕ, zero, suc, ◌<◌, ◌≤◌, true, cond, List, [], ◌∷◌, length, Some, None, Ok, Err, Option, Result, sym, refl, ap, ◌∙◌, subst, arith, MatchOption}
+use Rattle.std.proofs.Common.{◌≡◌, ℕ, zero, suc, ◌+◌, ◌<◌, ◌≤◌, true, cond, List, [], ◌∷◌, length, Some, None, Ok, Err, Option, Result, sym, refl, ap, ◌∙◌, subst, arith, MatchOption}
 use Rattle.codes.proofs.Found.{none-some}
 use Rattle.std.proofs.lemmas.Bool.{and_parts, eqb-true, true≢false, cond-true, cond-false}
 use Rattle.faults.specs.Refusal.{Refusal}
@@ -10,7 +10,7 @@ use Rattle.codes.proofs.Decoding.{codeword_long, decodes, nearest}
 use Rattle.promises.specs.Scheme.{Plan, Scheme, scheme, Handed, Counts, none}
 use Rattle.promises.specs.Trial.{unfit, fails}
 use Rattle.promises.specs.Calls.{Encoding, Correcting, Call, encode, correct, close, code_of, fits, objection, Encodes, found, missed, Finds, Loses, reason, Corrects, refuses, finds, loses, Runs}
-use Rattle.promises.specs.Promise.{formed, blocks, Same, Faithful, Within, Served, nothing, one_more, no_more, empty, adds, skips, Counting, Encoded, Promise, Passed, Law}
+use Rattle.promises.specs.Promise.{formed, blocks, Same, Alike, Faithful, Within, Served, nothing, one_more, no_more, empty, adds, skips, Counting, Encoded, Promise, Passed, Law}
 use Rattle.promises.proofs.Trying.{first_none, second_none, fit_order, fit_size, fit_long, fit_permutes, passes_serves}
 use Rattle.promises.proofs.Refusing.{accepted, formed_at, unformed_at, fits_from}
 use Rattle.promises.proofs.Alike.{codeword_same, candidate_same, succeeds_same}
@@ -137,7 +137,7 @@ module _ (D : Plan) (trial : Handed) (passed : Passed D trial) where
       let (i, h, s) = (decodes C t S.m trial.list.target within permutes strong x.block (block.0, λ p h. omega (arith, order_same, block.1 p h))).1 (u, near) in
       l.none_succeeds i h (back x.handed fit e x.block i h s)
 
-  counts_after : (vs : List (List ℕ)) (c after : Counts) (x : Correcting) → Counting S trial vs c → (fits S x.handed ≡ true → Same S trial x.handed) → Corrects S c x after
+  counts_after : (vs : List (List ℕ)) (c after : Counts) (x : Correcting) → Counting S trial vs c → Alike S trial x.handed → Corrects S c x after
       → Counting S trial (cond (formed S (length vs) x) (x.block ∷ vs) vs) after
   counts_after vs c after x so gets (refuses r o f) =
       rw (cond-false _ (x.block ∷ vs) vs (unformed_at S (length vs) x r (rw so.all at o)), f.tally) so
@@ -157,11 +157,37 @@ module _ (D : Plan) (trial : Handed) (passed : Passed D trial) where
 
   counted_so : (past : List Call) (c : Counts) → Runs S past c → Faithful S trial past → Counting S trial (blocks S past) c
   counted_so [] c run faith = rw run nothing_counted
-  counted_so (encode x ∷ past) after (c, run, (_, same)) faith = rw same (counted_so past c run faith.1)
+  counted_so (encode x ∷ past) after (c, run, (_, same)) faith = rw same (counted_so past c run faith)
   counted_so (correct x ∷ past) after (c, run, does) faith = counts_after (blocks S past) c after x (counted_so past c run faith.1) faith.0 does
   counted_so (close answer ∷ past) after (c, run, (_, same)) faith = rw same nothing_counted
 
-  served : (c after : Counts) (x : Correcting) → (fits S x.handed ≡ true → Same S trial x.handed) → Corrects S c x after → formed S c.blocks x ≡ true → Served S trial x
+  -- the tally's number of blocks is that of the well-formed ones, whatever the calls were handed
+  found_blocks : (d : ℕ) (c : Counts) → (found d c).blocks ≡ c.blocks + 1
+  found_blocks zero c = refl
+  found_blocks (suc d) c = refl
+
+  blocks_after : (vs : List (List ℕ)) (c after : Counts) (x : Correcting) → c.blocks ≡ length vs → Corrects S c x after
+      → after.blocks ≡ length (cond (formed S (length vs) x) (x.block ∷ vs) vs)
+  blocks_after vs c after x so (refuses r o f) =
+      rw (cond-false _ (x.block ∷ vs) vs (unformed_at S (length vs) x r (rw so at o)), f.tally) so
+  blocks_after vs c after x so (finds o i f) =
+      let (clear, well) = formed_at S (length vs) x (rw so at o) in
+      rw (cond-true _ (x.block ∷ vs) vs well, f.tally) (found_blocks (distance D.n x.block x.after) c ∙ omega arith)
+  blocks_after vs c after x so (loses o f) =
+      let (clear, well) = formed_at S (length vs) x (rw so at o) in
+      rw (cond-true _ (x.block ∷ vs) vs well, f.tally) (omega arith)
+
+  blocks_so : (past : List Call) (c : Counts) → Runs S past c → c.blocks ≡ length (blocks S past)
+  blocks_so [] c run = ap (λ (x : Counts). x.blocks) run
+  blocks_so (encode x ∷ past) after (c, run, (_, same)) = ap (λ (x : Counts). x.blocks) same ∙ blocks_so past c run
+  blocks_so (correct x ∷ past) after (c, run, does) = blocks_after (blocks S past) c after x (blocks_so past c run) does
+  blocks_so (close answer ∷ past) after (c, run, (_, same)) = ap (λ (x : Counts). x.blocks) same
+
+  -- the codeword of a message is a codeword within t places
+  message_near : (v u : List ℕ) → Symbols S.q S.k u → distance D.n v (codeword C u) ≤ t → Near C t v (codeword C u)
+  message_near v u symbols near = ((u, (symbols.0, λ p h. omega (arith, order_same, symbols.1 p h)), refl), near)
+
+  served : (c after : Counts) (x : Correcting) → Alike S trial x.handed → Corrects S c x after → formed S c.blocks x ≡ true → Served S trial x
   served c after x gets (refuses r o f) well = absurd (true≢false (sym well ∙ unformed_at S c.blocks x r o))
   served c after x gets (finds o i f) well =
       let (fit, block) = accepted S x.handed D.n x.block x.before (formed_at S c.blocks x o).0 in
@@ -173,6 +199,8 @@ module _ (D : Plan) (trial : Handed) (passed : Passed D trial) where
         its_distance = λ d j a. sym (ok_parts _ _ d j (sym f.answers ∙ a)).0;
         first_attempt = λ d j a.
             subst (λ (l : ℕ). (l < S.m) × First C t trial.list.target x.block l) (ok_parts _ _ d j (sym f.answers ∙ a)).1 (f.within, (same_found x c after i fit (gets fit) f).0);
+        restores = λ u symbols h.
+            (distance D.n x.block x.after, i, f.answers, sym (only_found x c after i fit (gets fit) f (codeword C u) (message_near x.block u symbols h)));
         otherwise = λ no. absurd (no x.after near);
       }
   served c after x gets (loses o f) well =
@@ -185,6 +213,7 @@ module _ (D : Plan) (trial : Handed) (passed : Passed D trial) where
         the_only = λ d j a. absurd (never d j a);
         its_distance = λ d j a. absurd (never d j a);
         first_attempt = λ d j a. absurd (never d j a);
+        restores = λ u symbols h. absurd (no (codeword C u) (message_near x.block u symbols h));
         otherwise = λ _. (f.answers, f.word);
       }
 
@@ -194,7 +223,7 @@ module _ (D : Plan) (trial : Handed) (passed : Passed D trial) where
   refused c after x (finds o i f) ill = absurd (ill (formed_at S c.blocks x o).1)
   refused c after x (loses o f) ill = absurd (ill (formed_at S c.blocks x o).1)
 
-  encoded : (x : Encoding) → (fits S x.handed ≡ true → Same S trial x.handed) → Encodes S x → Encoded S trial x
+  encoded : (x : Encoding) → Alike S trial x.handed → Encodes S x → Encoded S trial x
   encoded x gets does = record {
     writes = λ none. let (answer, after) = at_none (objection S x.handed S.k x.message x.before) _ _ none does in
         let (fit, _) = accepted S x.handed S.k x.message x.before none in
@@ -205,17 +234,18 @@ module _ (D : Plan) (trial : Handed) (passed : Passed D trial) where
   pub promised : Promise S trial
   promised = record {
     accepts = fits_from S trial order_same (fit_long D trial fit) refl (fit_size D trial fit);
-    serves = λ past x after ((c, run, does), faith) well.
-        let so = (counted_so past c run faith.1).all in
-        served c after x faith.0 does (rw so well);
-    refuses = λ past x after ((c, run, does), faith) ill.
-        let so = (counted_so past c run faith.1).all in
+    serviceable = strong;
+    serves = λ past x after (c, run, does) alike well.
+        let so = blocks_so past c run in
+        served c after x alike does (rw so well);
+    refuses = λ past x after (c, run, does) ill.
+        let so = blocks_so past c run in
         let (r, why, answer, word) = refused c after x does (λ e. ill (rw so at e)) in
         (r, ap (λ (b : ℕ). reason S b x) (sym so) ∙ why, answer, word);
-    encodes = λ past x after ((c, run, (does, _)), faith). encoded x faith.0 does;
-    counts = λ calls c (run, faith). counted_so calls c run faith;
-    closes = λ past answer after ((c, run, (is, _)), faith). rw is (counted_so past c run faith);
-    withdraws = λ calls answer c (run, faith) is. rw is (counted_so calls c run faith);
+    encodes = λ past x after (c, run, (does, _)) alike. encoded x alike does;
+    counts = λ calls c run faith. counted_so calls c run faith;
+    closes = λ past answer after (c, run, (is, _)) faith. rw is (counted_so past c run faith);
+    withdraws = λ calls answer c run faith is. rw is (counted_so calls c run faith);
   }
 
 pub law : Law

@@ -7,7 +7,7 @@ use Rattle.codes.specs.Code.{Permutation}
 use Rattle.codes.proofs.Found.{none-some}
 use Rattle.codes.proofs.Linear.{serviceable, tested_from, room}
 use Rattle.codes.proofs.Offending.{all_permute, heavy_from, light_none, keeps_from, unkept_none, cleared_from, cleared_none}
-use Rattle.promises.specs.Scheme.{Plan, Handed, code_of}
+use Rattle.promises.specs.Scheme.{Plan, Handed, draft_code}
 use Rattle.promises.specs.Trial.{mismatch, bad_row, bad_list, no_permutation, light_message, not_kept, unfit, fails, Serves}
 
 pub mapped_none : {A B : Type 0} (f : A → B) (o : Option A) → option_map f o ≡ None → o ≡ None
@@ -59,12 +59,12 @@ module _ (D : Plan) (h : Handed) (fit : unfit D h ≡ None) where
   module _ (rules : RingRules h.ring) (some : 0 < D.k) (fits : D.k ≤ D.n) where
     pub enough_places : light_message D h ≡ None → D.t ≤ D.n
     enough_places none =
-        room (code_of D h) D.t h.list.count h.list.target rules some fits fit_permutes
-        (heavy_from (code_of D h) D.t h.list.count h.list.target rules some fits fit_permutes (mapped_none _ _ none))
+        room (draft_code D h) D.t h.list.count h.list.target rules some fits fit_permutes
+        (heavy_from (draft_code D h) D.t h.list.count h.list.target rules some fits fit_permutes (mapped_none _ _ none))
 
     pub passes_serves : fails D h ≡ None → Serves D h
     passes_serves none =
-        let C = code_of D h in
+        let C = draft_code D h in
         let later = second_none (light_message D h) _ none in
         serviceable C D.t h.list.count h.list.target rules some fits fit_permutes
         (record {
@@ -75,7 +75,7 @@ module _ (D : Plan) (h : Handed) (fit : unfit D h ≡ None) where
 
     pub serves_passes : Serves D h → fails D h ≡ None
     serves_passes serves =
-        let C = code_of D h in
+        let C = draft_code D h in
         let tested = tested_from C D.t h.list.count h.list.target rules some fits fit_permutes serves in
         both_none _ _ (ap (option_map _) (light_none C D.t h.list.count h.list.target rules some fits fit_permutes tested.heavy))
         (both_none _ _ (ap (option_map _) (unkept_none C D.t h.list.count h.list.target rules some fits fit_permutes tested.keeps_units))

@@ -62,51 +62,51 @@ abbrev pub missed : Counts → Counts
 missed c = record { blocks = c.blocks + 1; clean = c.clean; mended = c.mended; lost = c.lost + 1; symbols = c.symbols }
 
 -- Attempt i is the first success: the output becomes its word, the answer is how far that is from the block, and i.
-pub record Finds (S : Scheme) (c : Counts) (x : Correcting) (after : Counts) (i : ℕ) : Type 0 where
+pub record Finds (S : Scheme) (c : Counts) (x : Correcting) (next : Counts) (i : ℕ) : Type 0 where
   pub within : i < S.m
   pub first : First (code_of S x.handed) S.t x.handed.list.target x.block i
   pub word : x.after ≡ candidate (code_of S x.handed) (x.handed.list.target i) x.block
   pub answers : x.answer ≡ Ok (distance S.n x.block x.after, i)
-  pub tally : after ≡ found (distance S.n x.block x.after) c
+  pub tally : next ≡ found (distance S.n x.block x.after) c
 
 -- Every attempt fails: refusal 17, the output stays, and the block is counted as lost.
-pub record Loses (S : Scheme) (c : Counts) (x : Correcting) (after : Counts) : Type 0 where
+pub record Loses (S : Scheme) (c : Counts) (x : Correcting) (next : Counts) : Type 0 where
   pub none_succeeds : (i : ℕ) → i < S.m → Succeeds (code_of S x.handed) S.t (x.handed.list.target i) x.block → ⊥
   pub answers : x.answer ≡ Err (refuse 17 0 0)
   pub word : x.after ≡ x.before
-  pub tally : after ≡ missed c
+  pub tally : next ≡ missed c
 
 -- Refusal r: output and tally stay.
-pub record Refuses (c : Counts) (x : Correcting) (after : Counts) (r : Refusal) : Type 0 where
+pub record Refuses (c : Counts) (x : Correcting) (next : Counts) (r : Refusal) : Type 0 where
   pub answers : x.answer ≡ Err r
   pub word : x.after ≡ x.before
-  pub tally : after ≡ c
+  pub tally : next ≡ c
 
 -- The first of refusals 13 to 16 that meets a call of correct after so many well-formed blocks, if any.
 abbrev pub reason : Scheme → ℕ → Correcting → Option Refusal
 reason S came x = option_or (objection S x.handed S.n x.block x.before) (cond (nat_lt came 1000000) None (Some (refuse 16 0 0)))
 
--- What a call of correct does, from the tally c to the tally `after`: one of three things.
-pub data Corrects (S : Scheme) (c : Counts) (x : Correcting) (after : Counts) : Type 0 where
-  refuses : (r : Refusal) → reason S c.blocks x ≡ Some r → Refuses c x after r → Corrects S c x after
-  finds : reason S c.blocks x ≡ None → (i : ℕ) → Finds S c x after i → Corrects S c x after
-  loses : reason S c.blocks x ≡ None → Loses S c x after → Corrects S c x after
+-- What a call of correct does, from the tally c to the tally `next`: one of three things.
+pub data Corrects (S : Scheme) (c : Counts) (x : Correcting) (next : Counts) : Type 0 where
+  refuses : (r : Refusal) → reason S c.blocks x ≡ Some r → Refuses c x next r → Corrects S c x next
+  finds : reason S c.blocks x ≡ None → (i : ℕ) → Finds S c x next i → Corrects S c x next
+  loses : reason S c.blocks x ≡ None → Loses S c x next → Corrects S c x next
 
 -- Close answers the tally, and counting starts again from nothing.
 abbrev pub Closes : Counts → Counts → Counts → Type 0
-Closes c answer after = (answer ≡ c) × (after ≡ none)
+Closes c answer next = (answer ≡ c) × (next ≡ none)
 
 -- Withdraw answers the tally; the scheme is used up.
 abbrev pub Withdraws : Counts → Counts → Type 0
 Withdraws c answer = answer ≡ c
 
--- What any call does, from the tally c to the tally `after`.
+-- What any call does, from the tally c to the tally `next`.
 abbrev pub Does : Scheme → Counts → Call → Counts → Type 0
-Does S c (encode x) after = Encodes S x × (after ≡ c)
-Does S c (correct x) after = Corrects S c x after
-Does S c (close answer) after = Closes c answer after
+Does S c (encode x) next = Encodes S x × (next ≡ c)
+Does S c (correct x) next = Corrects S c x next
+Does S c (close answer) next = Closes c answer next
 
 -- A run of calls on a scheme that has just gone live, the newest call first, and the tally that it leaves.
 abbrev pub Runs : Scheme → List Call → Counts → Type 0
-Runs S [] after = after ≡ none
-Runs S (call ∷ past) after = (c : Counts) × Runs S past c × Does S c call after
+Runs S [] next = next ≡ none
+Runs S (call ∷ past) next = (c : Counts) × Runs S past c × Does S c call next

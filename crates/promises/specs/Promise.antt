@@ -1,10 +1,11 @@
 -- The promise of a live scheme, over all runs of calls.
 -- To read it: `(w : A) → P` says P of every w, `(w : A) × P` that there is a w with P, `P → ⊥` that P fails, `cond b x y` is x where b is true and else y,
 -- `x ∷ xs` a list with its first element, `Ok a` an answer and `Err r` a refusal. A word is a list of symbols.
-use Rattle.std.specs.Prelude.{◌≡◌, ℕ, ◌+◌, ◌<◌, Bool, true, cond, not, ◌&&◌, List, [], ◌∷◌, length, is_some, Some, None, Ok, Err, ◌≢◌, nat_lt}
+use Rattle.std.specs.Prelude.{◌≡◌, ℕ, ◌+◌, ◌<◌, ◌≤◌, Bool, true, cond, not, ◌&&◌, List, [], ◌∷◌, length, is_some, Some, None, Ok, Err, ◌≢◌, nat_lt}
 use Rattle.symbols.specs.Ring.{RingRules}
 use Rattle.faults.specs.Refusal.{Refusal, refuse}
-use Rattle.codes.specs.Code.{Codeword, codeword, distance, Near, First}
+use Rattle.codes.specs.Code.{Symbols, Codeword, codeword, distance, Near, First}
+use Rattle.codes.specs.Serviceable.{Serviceable}
 use Rattle.promises.specs.Scheme.{Plan, Scheme, scheme, Handed, Counts}
 use Rattle.promises.specs.Trial.{verdict}
 use Rattle.promises.specs.Calls.{Encoding, Correcting, Call, encode, correct, close, code_of, fits, objection, reason, Withdraws, Runs}
@@ -31,16 +32,16 @@ pub record Same (S : Scheme) (trial h : Handed) : Type 0 where
   pub products : (a b : ℕ) → a < S.q → b < S.q → h.ring.mul a b ≡ trial.ring.mul a b
   pub targets : (i p : ℕ) → i < S.m → p < S.n → h.list.target i p ≡ trial.list.target i p
 
--- The premise on the callers: every encode and every correct works with the trial's rows, kind and list, or is turned away by refusal 13.
+-- A call is handed the trial's rows, kind and list, or is turned away by refusal 13.
+abbrev pub Alike : Scheme → Handed → Handed → Type 0
+Alike S trial h = fits S h ≡ true → Same S trial h
+
+-- The premise on the callers, for the tally: each correct since the start or the last close is such a call.
 abbrev pub Faithful : Scheme → Handed → List Call → Type 0
 Faithful S trial [] = Unit {0}
-Faithful S trial (encode x ∷ past) = (fits S x.handed ≡ true → Same S trial x.handed) × Faithful S trial past
-Faithful S trial (correct x ∷ past) = (fits S x.handed ≡ true → Same S trial x.handed) × Faithful S trial past
-Faithful S trial (close answer ∷ past) = Faithful S trial past
-
--- All calls since the scheme went live, under that premise, and the tally c that they leave.
-abbrev pub History : Scheme → Handed → List Call → Counts → Type 0
-History S trial calls c = Runs S calls c × Faithful S trial calls
+Faithful S trial (encode x ∷ past) = Faithful S trial past
+Faithful S trial (correct x ∷ past) = Alike S trial x.handed × Faithful S trial past
+Faithful S trial (close answer ∷ past) = Unit {0}
 
 -- The word w is a codeword of the trial's code and differs from v at no more than t places.
 abbrev pub Within : Scheme → Handed → List ℕ → List ℕ → Type 0
@@ -58,6 +59,9 @@ pub record Served (S : Scheme) (trial : Handed) (x : Correcting) : Type 0 where
   pub its_distance : (d i : ℕ) → x.answer ≡ Ok (d, i) → d ≡ distance S.n x.block x.after
   -- its second number is the earliest attempt that succeeds.
   pub first_attempt : (d i : ℕ) → x.answer ≡ Ok (d, i) → (i < S.m) × First (code_of S trial) S.t trial.list.target x.block i
+  -- So a block that came from the codeword of a message, with at most t symbols changed, becomes that codeword again.
+  pub restores : (u : List ℕ) → Symbols S.q S.k u → distance S.n x.block (codeword (code_of S trial) u) ≤ S.t
+      → (d : ℕ) × (i : ℕ) × (x.answer ≡ Ok (d, i)) × (x.after ≡ codeword (code_of S trial) u)
   -- With no such codeword, the call is refused as 17 and the output stays.
   pub otherwise : ((w : List ℕ) → Within S trial x.block w → ⊥) → (x.answer ≡ Err (refuse 17 0 0)) × (x.after ≡ x.before)
 
@@ -96,23 +100,26 @@ pub record Encoded (S : Scheme) (trial : Handed) (x : Encoding) : Type 0 where
   pub writes : objection S x.handed S.k x.message x.before ≡ None → (x.answer ≡ Ok tt) × (x.after ≡ codeword (code_of S trial) x.message)
   pub refuses : (r : Refusal) → objection S x.handed S.k x.message x.before ≡ Some r → (x.answer ≡ Err r) × (x.after ≡ x.before)
 
--- The promise. It is made of every history, so it holds at each call of a longer one.
+-- The promise. A run is all calls since the scheme went live, the newest first, with the tally c that they leave. What is said of the
+-- newest call holds of each call, since every shorter run is a run.
 pub record Promise (S : Scheme) (trial : Handed) : Type 0 where
   -- refusal 13 does not meet the trial's own rows, kind and list;
   pub accepts : fits S trial ≡ true
-  -- every well-formed block fares as said above;
-  pub serves : (past : List Call) (x : Correcting) (c : Counts) → History S trial (correct x ∷ past) c → WellFormed S past x → Served S trial x
+  -- the code and the list serve for t errors;
+  pub serviceable : Serviceable (code_of S trial) S.t S.m trial.list.target
+  -- every well-formed block, handed over with the trial's rows, kind and list, fares as said above;
+  pub serves : (past : List Call) (x : Correcting) (c : Counts) → Runs S (correct x ∷ past) c → Alike S trial x.handed → WellFormed S past x → Served S trial x
   -- every other block is refused, by the first of 13 to 16 that meets it, and the output stays;
-  pub refuses : (past : List Call) (x : Correcting) (c : Counts) → History S trial (correct x ∷ past) c → (WellFormed S past x → ⊥)
+  pub refuses : (past : List Call) (x : Correcting) (c : Counts) → Runs S (correct x ∷ past) c → (WellFormed S past x → ⊥)
       → (r : Refusal) × (reason S (length (blocks S past)) x ≡ Some r) × (x.answer ≡ Err r) × (x.after ≡ x.before)
   -- encode fares as said above;
-  pub encodes : (past : List Call) (x : Encoding) (c : Counts) → History S trial (encode x ∷ past) c → Encoded S trial x
+  pub encodes : (past : List Call) (x : Encoding) (c : Counts) → Runs S (encode x ∷ past) c → Alike S trial x.handed → Encoded S trial x
   -- the tally is that of the well-formed blocks since the start or the last close,
-  pub counts : (calls : List Call) (c : Counts) → History S trial calls c → Counting S trial (blocks S calls) c
+  pub counts : (calls : List Call) (c : Counts) → Runs S calls c → Faithful S trial calls → Counting S trial (blocks S calls) c
   -- it is what close answers,
-  pub closes : (past : List Call) (answer c : Counts) → History S trial (close answer ∷ past) c → Counting S trial (blocks S past) answer
+  pub closes : (past : List Call) (answer c : Counts) → Runs S (close answer ∷ past) c → Faithful S trial past → Counting S trial (blocks S past) answer
   -- and what withdraw answers.
-  pub withdraws : (calls : List Call) (answer c : Counts) → History S trial calls c → Withdraws c answer → Counting S trial (blocks S calls) answer
+  pub withdraws : (calls : List Call) (answer c : Counts) → Runs S calls c → Faithful S trial calls → Withdraws c answer → Counting S trial (blocks S calls) answer
 
 -- A draft with information and check places, and what its trial was handed, which no refusal of the trial meets.
 pub record Passed (D : Plan) (trial : Handed) : Type 0 where

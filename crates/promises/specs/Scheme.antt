@@ -25,8 +25,8 @@ abbrev pub handing : Ring → List ℕ → Meaning → Handed
 handing R given M = record { ring = R; rows = given; list = M }
 
 -- The code that a draft makes of what a call is handed.
-abbrev pub code_of : Plan → Handed → Code
-code_of D h = code h.ring D.n D.k h.rows
+abbrev pub draft_code : Plan → Handed → Code
+draft_code D h = code h.ring D.n D.k h.rows
 
 -- The first of refusals 3, 4 and 5 that meets the numbers of a draft, if any:
 -- n from 2 to 64, k from 1 to 16 and below n; t from 1 to 5; at most 65,536 messages.

@@ -6,7 +6,7 @@ use Rattle.codes.specs.Search.{least}
 use Rattle.codes.specs.Sets.{bits, uncleared}
 use Rattle.codes.specs.Offenders.{bad_entry, light, unkept}
 use Rattle.codes.specs.Serviceable.{Serviceable}
-use Rattle.promises.specs.Scheme.{Plan, Handed, code_of}
+use Rattle.promises.specs.Scheme.{Plan, Handed, draft_code}
 
 -- 6: a kind whose q is not the draft's, or rows that are not k × (n - k) codes.
 abbrev pub mismatch : Plan → Handed → Option Refusal
@@ -30,11 +30,11 @@ no_permutation D h = option_map (λ x. refuse 9 x.0 x.1) (bad_entry D.n h.list.c
 
 -- 10: the smallest non-zero message whose codeword has at most 2t non-zero symbols.
 abbrev pub light_message : Plan → Handed → Option Refusal
-light_message D h = option_map (λ x. refuse 10 x 0) (light (code_of D h) (2 * D.t))
+light_message D h = option_map (λ x. refuse 10 x 0) (light (draft_code D h) (2 * D.t))
 
 -- 11: the first permutation that takes the codeword of a unit message to no codeword, and the first such unit message.
 abbrev pub not_kept : Plan → Handed → Option Refusal
-not_kept D h = option_map (λ x. refuse 11 x.0 x.1) (unkept (code_of D h) h.list.count h.list.target)
+not_kept D h = option_map (λ x. refuse 11 x.0 x.1) (unkept (draft_code D h) h.list.count h.list.target)
 
 -- 12: the first set of exactly t places, in dictionary order, that no permutation clears.
 abbrev pub not_cleared : Plan → Handed → Option Refusal
@@ -54,7 +54,7 @@ verdict D h = option_or (unfit D h) (fails D h)
 
 -- The code and the list serve for the draft's t errors.
 abbrev pub Serves : Plan → Handed → Type 0
-Serves D h = Serviceable (code_of D h) D.t h.list.count h.list.target
+Serves D h = Serviceable (draft_code D h) D.t h.list.count h.list.target
 
 -- P holds exactly when Q does.
 abbrev pub Exactly : Type 0 → Type 0 → Type 0

@@ -18,8 +18,7 @@ use Rattle.promises.specs.Promise.{Promise}
 use Rattle.promises.proofs.Promised.{law}
 use Rattle.promises.proofs.Refusing.{accepted}
 use Rattle.files.specs.Layout.{contents_of}
-use Rattle.opening.specs.Opening.{plan_of, handed_of}
-use Rattle.opening.specs.Opening.{scheme_refusal}
+use Rattle.opening.specs.Opening.{plan_of, handed_of, scheme_refusal}
 use Rattle.host.specs.Hosted.{Called}
 
 some-not : {A : Type 0} (o : Option A) → not (is_some o) ≡ true → o ≡ None
