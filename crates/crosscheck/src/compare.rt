@@ -166,7 +166,7 @@ impl<'a, K: Kind, L: Permutations> Comparison<'a, K, L> {
     }
 }
 
-// A codeword of bits with the places of a mask turned.
+// A codeword of bits with the places of a mask turned, in an array as `one` takes it.
 fn turned(word: &[u8], mask: u32) -> [u8; 64] {
     let mut block = [0u8; 64];
     let mut rest = mask;
@@ -192,7 +192,7 @@ fn scattered(seed: u32, n: u8, errors: u8) -> (u32, u32)
     })
 }
 
-// The symbols of a number in base q, the lowest first.
+// The symbols of a number in base q, the lowest first, in an array as `one` takes it.
 fn numbered(x: u32, q: u8) -> [u8; 64] {
     let q = q.max(1) as u32;
     let mut block = [0u8; 64];

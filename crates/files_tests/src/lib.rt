@@ -88,6 +88,7 @@ mod tests {
     fn lengths(rt: HostRuntime) {
         let mut file = [0; 27];
         file[..26].copy_from_slice(&SHIFTS);
+        // The size itself is tried.
         for size in 0..=27 {
             let number = match size {
                 0..=12 => 18,

@@ -160,6 +160,7 @@ fn kind_and_list_from_outside(rt: HostRuntime) -> Result<(), Fail> {
 
 // Corrects a million blocks: one that is mended and one that is clean, in turn.
 fn fill(scheme: &mut Live, bits: &Residues, shifts: &Shifts, rows: &[u8]) {
+    // So many times: nothing is gone through.
     for _ in 0..500_000 {
         let mut out = [0u8; 3];
         let _ = scheme.correct(bits, shifts, rows, &[1, 1, 0], &mut out);
@@ -220,6 +221,7 @@ fn long_run(rt: HostRuntime) -> Result<(), Fail> {
     let mut seed = 12345u32;
     let mut clean = 0u32;
     let mut refused = 0u32;
+    // So many times: each block follows from the one before.
     for _ in 0..5_000 {
         seed = seed.wrapping_mul(1_103_515_245).wrapping_add(12_345);
         let x = seed >> 16;

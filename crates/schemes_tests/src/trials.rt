@@ -12,6 +12,7 @@ fn drafted<K: Kind>(kind: &K, n: u8, k: u8, t: u8) -> Told {
     told(Draft::new(n, k, t, kind))
 }
 
+// The parameters are those of the calls.
 fn tried<K: Kind, L: Permutations>(kind: &K, list: &L, n: u8, k: u8, t: u8, rows: &[u8]) -> Told {
     told(live(kind, list, n, k, t, rows))
 }

@@ -17,6 +17,7 @@ fn correct_each(opened: &mut Opened, blocks: &[u8], out: &mut [u8]) {
 // Opens the file, tries its scheme, and corrects all blocks, as many times as `rounds` says.
 fn rounds_of(file: &[u8], blocks: &[u8], out: &mut [u8], rounds: u32) -> Result<(), Fault> {
     let mut opened = Opened::new(file)?;
+    // As often as is asked: nothing is gone through.
     for _ in 0..rounds {
         correct_each(&mut opened, blocks, out);
         let _ = opened.close();
