@@ -1,7 +1,8 @@
 -- Messages and the numbers that they stand for.
-use Rattle.std.proofs.Common.{◌≡◌, ℕ, zero, suc, ◌+◌, ◌-◌, ◌*◌, ◌/◌, ◌%◌, ◌^◌, ◌<◌, ◌≤◌, List, [], ◌∷◌, length, get_or, take, drop, set, sym, refl, ap, ◌∙◌, ⊎_elim, mod-lt, mod-eq_of_lt, mul_assoc, suc-mul, mul_comm, pow-suc, arith}
+use Rattle.std.proofs.Common.{◌≡◌, ℕ, zero, suc, ◌+◌, ◌-◌, ◌*◌, ◌/◌, ◌%◌, ◌^◌, ◌<◌, ◌≤◌, List, [], ◌∷◌, ◌++◌, length, get_or, take, drop, set, sym, refl, ap, ◌∙◌, ap₂, ⊎_elim, mod-lt, mod-eq_of_lt, mul_assoc, suc-mul, mul_comm, pow-suc, arith}
 use native.Mathlib.Nat.{pow-zero, div-div-eq-div-mul, div-add-mod, add-mul-div_left, add-mul-mod_self_left}
 use Rattle.std.proofs.lemmas.List.{drop-set, length-take-le}
+use Rattle.std.proofs.Math.Nat.{div-one}
 use Rattle.std.proofs.lemmas.Nat.{mul-le, div-mul-add, div_below}
 use Rattle.std.proofs.lemmas.Bool.{cases_eq}
 use Rattle.codes.specs.Code.{message, Symbols}
@@ -65,6 +66,20 @@ message-number q (u ∷ us) b =
     let head : ((u * q ^ length us + number q us) / q ^ length us) % q ≡ u = ap (λ (y : ℕ). y % q) (div-mul-add u (q ^ length us) (number q us) v) ∙ mod-eq_of_lt b.0 in
     let tail : message q (length us) (u * q ^ length us + number q us) ≡ us = message_high q (length us) u (number q us) (omega arith) ∙ message-number q us b.1 in
     cc
+
+-- a message of one symbol more: its last symbol, and what its number is before that
+pub message_last : (q k lead last : ℕ) → last < q → message q (suc k) (lead * q + last) ≡ message q k lead ++ (last ∷ [])
+message_last q zero lead last h =
+    ap (λ (y : ℕ). y ∷ [])
+    (ap (λ (y : ℕ). ((lead * q + last) / y) % q) (pow-zero q) ∙ ap (λ (y : ℕ). y % q) (div-one (lead * q + last))
+    ∙ ap (λ (y : ℕ). y % q) (let e : lead * q + last ≡ last + q * lead = omega (arith, mul_comm lead q) in e)
+    ∙ add-mul-mod_self_left last q lead ∙ mod-eq_of_lt h)
+message_last q (suc k) lead last h =
+    let front : (lead * q + last) / q ^ suc k ≡ lead / q ^ k =
+        ap (λ (y : ℕ). (lead * q + last) / y) (pow-suc q k ∙ mul_comm (q ^ k) q)
+        ∙ sym (div-div-eq-div-mul (lead * q + last) q (q ^ k))
+        ∙ ap (λ (y : ℕ). y / q ^ k) (div-mul-add lead q last h) in
+    ap₂ (λ (y : ℕ) (ys : List ℕ). y % q ∷ ys) front (message_last q k lead last h)
 
 pub message_below : (q k x : ℕ) → 0 < q → Below q (message q k x)
 message_below q zero x h = tt

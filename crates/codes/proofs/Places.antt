@@ -1,7 +1,7 @@
 -- Distances and permutations of places.
-use Rattle.std.proofs.Common.{◌≡◌, ℕ, zero, suc, ◌+◌, ◌<◌, ◌≤◌, Bool, true, false, cond, eqb, List, [], ◌∷◌, length, get_or, sym, refl, ap, ◌∙◌, ap₂, ⊎_elim, not-suc-le-zero, arith}
+use Rattle.std.proofs.Common.{◌≡◌, ℕ, zero, suc, ◌+◌, ◌-◌, ◌<◌, ◌≤◌, Bool, true, false, cond, eqb, List, [], ◌∷◌, ◌++◌, length, get_or, sym, refl, ap, ◌∙◌, ap₂, ⊎_elim, not-suc-le-zero, arith}
 use Rattle.std.specs.List.{AllByRecursion}
-use Rattle.std.proofs.lemmas.List.{ext_get_or}
+use Rattle.std.proofs.lemmas.List.{ext_get_or, get_or_append_left, get_or-append_right}
 use Rattle.std.proofs.lemmas.List.FromFn.{length-map-range_with_len, get_or-map-range_with_len}
 use Rattle.std.proofs.lemmas.Bool.{true≢false, cases_eq, eq-eqb, ne_eqb, eqb-true, cond-true, cond-false, cases_Bool, cases_lt}
 use Rattle.std.proofs.lemmas.Bool.Decides.{nat_tests}
@@ -84,6 +84,30 @@ pub weight_agree : (n : ℕ) (v w : List ℕ) → ((p : ℕ) → p < n → get_o
 weight_agree zero v w same = refl
 weight_agree (suc n) v w same =
     omega (arith, distance-suc n v [], distance-suc n w [], weight_agree n v w (λ p h. same p (omega arith)), ap (λ x. mark x 0) (same n (omega arith)))
+
+-- two words differ in no fewer places than m places of theirs do, from k on
+pub distance_inner : (k m : ℕ) (v w x y : List ℕ) → ((j : ℕ) → j < m → get_or x j 0 ≡ get_or v (k + j) 0) → ((j : ℕ) → j < m → get_or y j 0 ≡ get_or w (k + j) 0) → distance m x y ≤ distance (k + m) v w
+distance_inner k zero v w x y left right = omega arith
+distance_inner k (suc m) v w x y left right =
+    let shift : distance (k + suc m) v w ≡ distance (suc (k + m)) v w = ap (λ n. distance n v w) (let e : k + suc m ≡ suc (k + m) = omega arith in e) in
+    omega (
+      arith, distance_inner k m v w x y (λ j h. left j (omega arith)) (λ j h. right j (omega arith)),
+      distance-suc m x y, distance-suc (k + m) v w, shift, ap₂ mark (left m (omega arith)) (right m (omega arith)),
+    )
+
+-- the weight of a word is that of its two parts
+pub weight_parts : (a b : List ℕ) (m : ℕ) → weight (length a + m) (a ++ b) ≡ weight (length a) a + weight m b
+weight_parts a b zero =
+    ap (λ (n : ℕ). weight n (a ++ b)) (let e : length a + 0 ≡ length a = omega arith in e)
+    ∙ weight_agree (length a) (a ++ b) a (λ p h. get_or_append_left a b 0 p h)
+    ∙ omega arith
+weight_parts a b (suc m) =
+    ap (λ (n : ℕ). weight n (a ++ b)) (let e : length a + suc m ≡ suc (length a + m) = omega arith in e)
+    ∙ omega (
+      arith, distance-suc (length a + m) (a ++ b) [], distance-suc m b [], weight_parts a b m,
+      ap (λ x. mark x 0) (get_or-append_right a b (length a) (length a + m) 0 refl (omega arith)),
+      ap (λ i. mark (get_or b i 0) 0) (let e : length a + m - length a ≡ m = omega arith in e),
+    )
 
 -- the places from f on, of d, where two words differ
 abbrev pub differing : ℕ → ℕ → List ℕ → List ℕ → List ℕ

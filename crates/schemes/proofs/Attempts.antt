@@ -30,6 +30,12 @@ module _ (C : Code) (fits : C.k ≤ C.n) (σ : ℕ → ℕ) (v : List ℕ) (x : 
   pub length_taken : length (take C.n x.word) ≡ C.n
   length_taken = ap length taken.moves ∙ length-map-range_with_len _ 0 C.n
 
+  -- how far the word is from the codeword of its first symbols
+  pub far_is : distance C.n (take C.n x.word) (codeword C (take C.k (take C.n x.word))) ≡ distance C.n v (candidate C σ v)
+  far_is =
+      ap (λ (w : List ℕ). distance C.n w (codeword C (take C.k w))) taken.moves
+      ∙ sym (distance_returned C.n σ taken.permutes v (codeword C (take C.k (moved C.n σ v))))
+
   module _ (word : List ℕ) (is : take C.n word ≡ codeword C (take C.k x.word)) where
     codeword_is : take C.n word ≡ codeword C (take C.k (moved C.n σ v))
     codeword_is = is ∙ ap (codeword C) message_is

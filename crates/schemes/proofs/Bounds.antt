@@ -1,5 +1,5 @@
 -- Tests of order, as facts.
-use Rattle.std.proofs.Common.{◌≡◌, ℕ, ◌<◌, ◌≤◌, Bool, true, false, ◌||◌, leb, sym, refl, arith}
+use Rattle.std.proofs.Common.{◌≡◌, ℕ, ◌<◌, ◌≤◌, Bool, true, false, ◌||◌, leb, ltb, sym, refl, arith}
 use Rattle.std.proofs.lemmas.Bool.Decides.{nat_tests}
 use Rattle.std.proofs.lemmas.Bool.{true≢false}
 
@@ -20,3 +20,6 @@ or_right false b e = e
 pub or_neither : (a b : Bool) → a ≡ false → b ≡ false → (a || b) ≡ false
 or_neither true b e f = absurd (true≢false e)
 or_neither false b e f = f
+
+pub ltb_lt : (a b : ℕ) → ltb a b ≡ true → a < b
+ltb_lt a b e = grind (arith, nat_tests)

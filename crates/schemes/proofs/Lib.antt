@@ -6,3 +6,4 @@ mod Taking
 mod Attempts
 mod Opening
 mod Summing
+mod Searching

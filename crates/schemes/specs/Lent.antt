@@ -1,7 +1,7 @@
 -- How what the inner functions hold reads in the definitions.
-use Rattle.std.specs.Prelude.{ℕ, ◌+◌, ◌*◌, List, slice_range}
-use Rattle.symbols.specs.Ring.{Ring}
-use Rattle.codes.specs.Code.{code}
+use Rattle.std.specs.Prelude.{ℕ, ◌+◌, ◌*◌, List, length, slice_range}
+use Rattle.symbols.specs.Ring.{Ring, total}
+use Rattle.codes.specs.Code.{code, term}
 use Rattle.codes.specs.Code as codes
 use Rattle.lists.specs.Meaning.{Meaning}
 use Rattle.promises.specs.Scheme as promises
@@ -12,9 +12,13 @@ use Rattle.schemes.specs.declared.scheme.words.Code.{Code}
 abbrev pub code_lent : {K : Type 0} → (K → Ring) → Code K → codes.Code
 code_lent ring c = code (ring c.kind.now) c.n c.k c.rows.now
 
--- row i of rows that are w codes wide
-abbrev pub row : List ℕ → ℕ → ℕ → List ℕ
-row rows w i = slice_range rows (i * w) ((i + 1) * w)
+-- the first `few` codes of row i of rows that are w codes wide
+abbrev pub row : List ℕ → ℕ → ℕ → ℕ → List ℕ
+row rows w i few = slice_range rows (i * w) (i * w + few)
+
+-- check symbol j of the message that begins with u and has 0 at its other places
+abbrev pub begun : codes.Code → List ℕ → ℕ → ℕ
+begun C u j = total C.ring (length u) (term C u j)
 
 -- what a call is handed, by the rings of its kinds and the meanings of its lists
 abbrev pub handed_lent : {K L : Type 0} → (K → Ring) → (L → Meaning) → Handed K L → promises.Handed

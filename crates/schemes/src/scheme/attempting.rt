@@ -74,6 +74,10 @@ impl<'c, 'l, K: Kind, L: Permutations> Fitted<'c, 'l, K, L> {
         let Ok(taken) = self.list.take(i, v) else {
             return None;
         };
+        // Most attempts on a damaged block end here.
+        if self.code.is_far(&taken.word[..n], self.t as usize) {
+            return None;
+        }
         let codeword = self.code.codeword(&taken.word[..self.code.k]);
         let d = distance(&taken.word[..n], &codeword[..n]);
         if d > self.t as usize {

@@ -1,7 +1,7 @@
-// Words: a code that is lent, its codewords, weights and distances.
-ghost use Rattle.std.specs.Prelude.{◌≡◌, ℕ, ◌+◌, ◌-◌, ◌*◌, ◌^◌, ◌<◌, ◌≤◌, length, nat_le, slice_index, take};
+// Words: a code that is lent, its check symbols and codewords.
+ghost use Rattle.std.specs.Prelude.{◌≡◌, ℕ, ◌+◌, ◌-◌, ◌*◌, ◌^◌, ◌<◌, ◌≤◌, true, length, slice_index, take};
 
-use crate::scheme::counts::weight;
+use crate::scheme::counts::distance;
 use symbols::Kind;
 
 // A word of at most 64 symbols, from place 0 on. It is an array with its length kept by the code, since the product has no heap.
@@ -27,28 +27,28 @@ pub(crate) struct Code<'a, K> {
 
 impl<'a, K: Kind> Code<'a, K> {
     ghost use Rattle.symbols.specs.Ring.{added};
-    ghost use Rattle.codes.specs.Code.{check, codeword, is_codeword, weight};
-    ghost use Rattle.schemes.specs.Lent.{code_lent, row};
+    ghost use Rattle.codes.specs.Code.{codeword, is_codeword, distance};
+    ghost use Rattle.schemes.specs.Lent.{code_lent, row, begun};
 
-    // Adds the multiples of row i to sums.
-    fn add_row(&self, i: usize, symbol: u8, sums: &mut Word)
-        requires { i < self.now.k }
-        ensures { sums.new ≡ added (K.ring self.now.kind.now) symbol (row self.now.rows.now (self.now.n - self.now.k) i) sums.old }
+    // Adds to sums the multiples of the first `few` codes of row i.
+    pub(crate) fn add_row(&self, i: usize, symbol: u8, few: usize, sums: &mut Word)
+        requires { (i < self.now.k) × (few ≤ self.now.n - self.now.k) }
+        ensures { sums.new ≡ added (K.ring self.now.kind.now) symbol (row self.now.rows.now (self.now.n - self.now.k) i few) sums.old }
     {
-        let width = self.n - self.k;
-        self.kind
-            .add_multiple(symbol, &self.rows[i * width..(i + 1) * width], sums);
+        let start = i * (self.n - self.k);
+        let codes = &self.rows[start..start + few];
+        self.kind.add_multiple(symbol, codes, sums);
     }
 
-    // The check symbols of a message, in the first n - k places.
-    fn check_symbols(&self, message: &[u8]) -> Word
-        requires { length message.now ≡ self.now.k }
-        ensures { (j : ℕ) → j < self.now.n - self.now.k → slice_index result j ≡ check (code_lent K.ring self.now) message.now j }
+    // The first `few` check symbols of a message. One that stops short of k symbols has 0 at its other places.
+    pub(crate) fn check_symbols(&self, message: &[u8], few: usize) -> Word
+        requires { (length message.now ≤ self.now.k) × (few ≤ self.now.n - self.now.k) }
+        ensures { (j : ℕ) → j < few → slice_index result j ≡ begun (code_lent K.ring self.now) message.now j }
     {
         let mut sums = [0u8; 64];
         for (i, symbol) in message.iter().enumerate() {
             if *symbol != 0 {
-                self.add_row(i, *symbol, &mut sums);
+                self.add_row(i, *symbol, few, &mut sums);
             }
         }
         sums
@@ -59,10 +59,11 @@ impl<'a, K: Kind> Code<'a, K> {
         requires { length message.now ≡ self.now.k }
         ensures { take self.now.n result ≡ codeword (code_lent K.ring self.now) message.now }
     {
-        let checks = self.check_symbols(message);
+        let width = self.n - self.k;
+        let checks = self.check_symbols(message, width);
         let mut word = [0u8; 64];
         word[..self.k].copy_from_slice(message);
-        word[self.k..self.n].copy_from_slice(&checks[..self.n - self.k]);
+        word[self.k..self.n].copy_from_slice(&checks[..width]);
         word
     }
 
@@ -75,11 +76,18 @@ impl<'a, K: Kind> Code<'a, K> {
         own[..self.n] == word[..]
     }
 
-    // Whether the codeword of a message has at most `limit` symbols that are not 0.
-    pub(crate) fn is_light(&self, message: &[u8], limit: usize) -> bool
-        requires { length message.now ≡ self.now.k }
-        ensures { result ≡ nat_le (weight self.now.n (codeword (code_lent K.ring self.now) message.now)) limit }
+    // Whether the first check symbols show that a word is more than `limit` places from the codeword of its first k symbols.
+    // They are twice as many as would if each of them differed. Where these are all, nothing is saved, and the answer is no.
+    pub(crate) fn is_far(&self, word: &[u8], limit: usize) -> bool
+        requires long { length word.now ≡ self.now.n }
+        requires few { limit ≤ 5 }
+        ensures { result ≡ true → limit < distance self.now.n word.now (codeword (code_lent K.ring self.now) (take self.now.k word.now)) }
     {
-        weight(&self.codeword(message)[..self.n]) <= limit
+        let few = 2 * (limit + 1);
+        if few >= self.n - self.k {
+            return false;
+        }
+        let checks = self.check_symbols(&word[..self.k], few);
+        distance(&word[self.k..self.k + few], &checks[..few]) > limit
     }
 }

@@ -5,7 +5,7 @@ use Rattle.codes.proofs.Found.{none-some}
 use Rattle.codes.proofs.Offending.{clash_none}
 use Rattle.schemes.specs.Lent.{code_lent}
 use Rattle.schemes.specs.Takes.{Takes}
-use Rattle.schemes.proofs.Attempts.{length_codeword, distance_is, candidate_is, candidate_passes, candidate_serves}
+use Rattle.schemes.proofs.Attempts.{length_codeword, far_is, distance_is, candidate_is, candidate_passes, candidate_serves}
 use Rattle.schemes.proofs.scheme.attempting.Fitted.attempt.Goals as goal
 
 pub returns-in_default : goal.returns-in_default
@@ -13,6 +13,14 @@ returns-in_default g c =
     let l = c.args.self.now.list in
     let σ = (g.L.Permutations.meaning l.list.now).target c.args.i in
     λ s. none-some _ (sym (clash_none l.n σ (subst (λ n. Permutation n σ) c.args.self.now.same s.0)) ∙ c.in_default.ensures)
+
+pub returns-then-is_far : goal.returns-then-is_far
+returns-then-is_far g c =
+    let C : Code = code_lent g.K.Kind.ring c.args.self.now.code in
+    let σ = (g.L.Permutations.meaning c.args.self.now.list.list.now).target c.args.i in
+    let x = c.in-Ok.taken in
+    let taken : Takes C.n σ c.args.v.now x = subst (λ n. Takes n σ c.args.v.now x) (sym c.args.self.now.same) c.in-Ok.ensures in
+    λ s. omega (arith, c.is_far.ensures c.if-is_far.true, far_is C (omega arith) σ c.args.v.now x taken, s.2)
 
 pub returns-then-d-self : goal.returns-then-d-self
 returns-then-d-self g c =

@@ -3,4 +3,4 @@ use Rattle.schemes.proofs.Summing.{Summed}
 use Rattle.schemes.proofs.scheme.words.Code.check_symbols.Given as goal
 
 abbrev pub invariant-loop-i : goal.invariant-loop-i
-invariant-loop-i g l = Summed (code_lent g.K.Kind.ring l.self) l.message l.i l.sums
+invariant-loop-i g l = Summed (code_lent g.K.Kind.ring l.self) l.message l.few l.i l.sums
