@@ -55,11 +55,13 @@ fn step(message: &mut [u8], q: u8) {
 fn check_symbol<K: Kind>(kind: &K, rows: &[u8], width: usize, message: &[u8], j: usize) -> u8
     requires { 0 < width }
 {
-    rows.iter()
-        .skip(j)
-        .step_by(width)
+    // By whole rows: to pass over single codes would take a step for each.
+    rows.chunks_exact(width)
         .zip(message)
-        .fold(0, |sum, (code, u)| kind.sum(kind.product(*u, *code), sum))
+        .fold(0, |sum, (row, u)| match row.get(j) {
+            Some(code) => kind.sum(kind.product(*u, *code), sum),
+            None => sum,
+        })
 }
 
 // Appends the check symbols of a message. The rows are lent, and no field of a book, since its words are all that is asked for later.
@@ -98,8 +100,9 @@ impl Book {
     // A codeword drawn by a number, or none if there are no codewords.
     pub fn drawn(&self, number: usize) -> Option<&[u8]> {
         let n = self.size.n as usize;
-        let number = number.checked_rem(self.words.len() / n)?;
-        self.words.chunks_exact(n).nth(number)
+        // By its place: `nth` of chunks would go through those before it.
+        let from = number.checked_rem(self.words.len() / n)?.checked_mul(n)?;
+        self.words.get(from..)?.get(..n)
     }
 
     // The codeword nearest to a block, and its distance: of several, the first.

@@ -4,7 +4,7 @@ use native.Mathlib.Nat.{pow-zero}
 use Rattle.std.proofs.lemmas.Nat.{mul-mod_first, mul-mod_second, pow-mod, mul-pow, pow-add}
 
 -- Factors that are equal modulo n give products that are.
-mul_left : (a b c n : ℕ) → a % n ≡ b % n → (a * c) % n ≡ (b * c) % n
+pub mul_left : (a b c n : ℕ) → a % n ≡ b % n → (a * c) % n ≡ (b * c) % n
 mul_left a b c n e = sym (mul-mod_first a c n) ∙ ap (λ x. (x * c) % n) e ∙ mul-mod_first b c n
 
 -- Both the base and the factor of a power may be reduced.
@@ -12,7 +12,7 @@ pub reduced : (s k p n : ℕ) → ((s % n) ^ k * (p % n)) % n ≡ (s ^ k * p) % 
 reduced s k p n = mul-mod_second ((s % n) ^ k) p n ∙ mul_left ((s % n) ^ k) (s ^ k) p n (pow-mod s k n)
 
 -- The square to the power h is the power 2 h.
-square_pow : (s h : ℕ) → (s * s) ^ h ≡ s ^ (h + h)
+pub square_pow : (s h : ℕ) → (s * s) ^ h ≡ s ^ (h + h)
 square_pow s h = mul-pow s s h ∙ sym (pow-add s h h)
 
 -- One turn of the loop at an even exponent k: the base is squared.

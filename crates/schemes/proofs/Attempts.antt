@@ -11,8 +11,7 @@ use Rattle.codes.proofs.Linear.{candidate_symbols}
 use Rattle.codes.proofs.Offending.{test_by_codeword, codeword_by_test}
 use Rattle.codes.proofs.Places.{distance_returned}
 use Rattle.codes.proofs.Words.{length-codeword}
-use Rattle.schemes.specs.declared.scheme.permuting.Taken.{Taken}
-use Rattle.schemes.specs.Takes.{Takes}
+use Rattle.schemes.specs.Takes.{Taken, Takes}
 
 -- the first k of the first n elements
 take_front : (k n : ℕ) (xs : List ℕ) → k ≤ n → take k (take n xs) ≡ take k xs

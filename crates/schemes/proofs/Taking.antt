@@ -8,8 +8,7 @@ use Rattle.codes.specs.Code.{Permutation}
 use Rattle.codes.specs.Offenders.{clashes, bad_place}
 use Rattle.codes.proofs.Places.{moved_only}
 use Rattle.codes.proofs.Found.{least-some, least-none}
-use Rattle.schemes.specs.declared.scheme.permuting.Taken.{Taken}
-use Rattle.schemes.specs.Takes.{Takes}
+use Rattle.schemes.specs.Takes.{Taken, Takes}
 use Rattle.schemes.proofs.Bounds.{le-leb, gt_leb, or_left, or_right, or_neither}
 
 -- after the first p positions, which have different targets below n: the targets that came

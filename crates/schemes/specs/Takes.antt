@@ -1,9 +1,17 @@
 -- What the inner functions know of words that were taken by a permutation and brought back.
 use Rattle.std.specs.Prelude.{◌≡◌, ℕ, ◌<◌, List, Some, take}
 use Rattle.lists.specs.Told.{told}
+use Rattle.lists.specs.declared.Targets.{Targets}
 use Rattle.codes.specs.Code.{Code, Permutation, moved, candidate, distance}
-use Rattle.schemes.specs.declared.scheme.permuting.Taken.{Taken}
 use Rattle.schemes.specs.declared.scheme.attempting.Success.{Success}
+
+-- a word that was taken by a permutation, with the permutation's targets
+pub record Taken : Type 0 where
+  pub targets : Targets
+  pub word : List ℕ
+
+abbrev pub taken : Targets → List ℕ → Taken
+taken targets word = record { targets = targets; word = word }
 
 -- σ is a permutation of n places; x has its targets, and the word that it takes v to.
 pub record Takes (n : ℕ) (σ : ℕ → ℕ) (v : List ℕ) (x : Taken) : Type 0 where

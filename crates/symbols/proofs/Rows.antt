@@ -17,7 +17,7 @@ added_by R f row old sums long new stays =
     (λ j h. let one = new j h in let two = stays j in grind (arith, nat_tests))
 
 -- the sum of residues, from one remainder
-sum_is : (b s f r : ℕ) → (s + f % b * r) % b ≡ plus (residues b) s (times (residues b) f r)
+pub sum_is : (b s f r : ℕ) → (s + f % b * r) % b ≡ plus (residues b) s (times (residues b) f r)
 sum_is b s f r =
     sym (mod-add-mod s b _ ∙ add-mod-mod s _ b ∙ ap (λ x. (s + x) % b) (mul-mod_second (f % b) r b) ∙ add-mod-mod s _ b)
 

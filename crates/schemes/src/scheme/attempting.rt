@@ -71,19 +71,20 @@ impl<'c, 'l, K: Kind, L: Permutations> Fitted<'c, 'l, K, L> {
     {
         let n = self.code.n;
         // Not plainer with `.ok()?`: what `take` ensures of both its answers would be read through an `Option`.
-        let Ok(taken) = self.list.take(i, v) else {
+        let targets = self.list.list.targets(i);
+        let Ok(taken) = self.list.take(i, &targets, v) else {
             return None;
         };
         // Most attempts on a damaged block end here.
-        if self.code.is_far(&taken.word[..n], self.t as usize) {
+        if self.code.is_far(&taken[..n], self.t as usize) {
             return None;
         }
-        let codeword = self.code.codeword(&taken.word[..self.code.k]);
-        let d = distance(&taken.word[..n], &codeword[..n]);
+        let codeword = self.code.codeword(&taken[..self.code.k]);
+        let d = distance(&taken[..n], &codeword[..n]);
         if d > self.t as usize {
             return None;
         }
-        let word = bring_back(&codeword[..n], &taken.targets);
+        let word = bring_back(&codeword[..n], &targets);
         if !self.code.is_codeword(&word[..n]) {
             return None;
         }
@@ -137,14 +138,15 @@ impl<'c, 'l, K: Kind, L: Permutations> Fitted<'c, 'l, K, L> {
         ensures { result ≡ unkept_unit (code_lent K.ring self.now.code) ((L.meaning self.now.list.list.now).target i) }
     {
         let n = self.code.n;
+        let targets = self.list.list.targets(i);
         // Not plainer as `find`: the step itself can leave.
         for j in 0..self.code.k {
             let message = unit(j);
             let word = self.code.codeword(&message[..self.code.k]);
-            let Ok(image) = self.list.take(i, &word[..n]) else {
+            let Ok(image) = self.list.take(i, &targets, &word[..n]) else {
                 return unreachable();
             };
-            if !self.code.is_codeword(&image.word[..n]) {
+            if !self.code.is_codeword(&image[..n]) {
                 return Some(j as u8);
             }
         }

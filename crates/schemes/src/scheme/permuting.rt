@@ -14,24 +14,19 @@ pub(crate) struct Listed<'a, L: Permutations> {
     ghost long: { n ≡ (L.meaning list.now).places },
 }
 
-// A word that was taken by a permutation, with the permutation's targets.
-#[derive(Clone, Copy)]
-pub(crate) struct Taken {
-    pub(crate) targets: Targets,
-    pub(crate) word: Word,
-}
-
 impl<'a, L: Permutations> Listed<'a, L> {
     ghost use Rattle.codes.specs.Offenders.{bad_place, bad_entry};
-    ghost use Rattle.schemes.specs.Takes.{Takes};
+    ghost use Rattle.lists.specs.Meaning.{reply};
+    ghost use Rattle.lists.specs.Told.{told};
+    ghost use Rattle.schemes.specs.Takes.{Takes, taken};
 
-    // Takes the word v by permutation i: the word and the targets, or the first position that shows that it is no permutation.
-    pub(crate) fn take(&self, i: u16, v: &[u8]) -> Result<Taken, u8>
+    // Takes the word v by permutation i, whose targets are lent: the word, or the first position that shows that it is no permutation.
+    pub(crate) fn take(&self, i: u16, targets: &Targets, v: &[u8]) -> Result<Word, u8>
         requires within { i < (L.meaning self.now.list.now).count }
+        requires asked { (p : ℕ) → p < 64 → told targets.now p ≡ reply (L.meaning self.now.list.now) i p }
         requires block { length v.now ≡ self.now.n }
-        ensures { MatchResult result (Takes self.now.n ((L.meaning self.now.list.now).target i) v.now) (λ p. bad_place self.now.n ((L.meaning self.now.list.now).target i) ≡ Some p) }
+        ensures { MatchResult result (λ word. Takes self.now.n ((L.meaning self.now.list.now).target i) v.now (taken targets.now word)) (λ p. bad_place self.now.n ((L.meaning self.now.list.now).target i) ≡ Some p) }
     {
-        let targets = self.list.targets(i);
         let mut came = [false; 64];
         let mut word = [0u8; 64];
         // Not plainer over the symbols of v: the number p is asked for, and refused.
@@ -43,7 +38,7 @@ impl<'a, L: Permutations> Listed<'a, L> {
             came[to as usize] = true;
             word[to as usize] = v[p as usize];
         }
-        Ok(Taken { targets, word })
+        Ok(word)
     }
 
     // The first entry that is no permutation, and the first position that shows it.
@@ -53,7 +48,8 @@ impl<'a, L: Permutations> Listed<'a, L> {
         let zeros = [0u8; 64];
         // The list is asked by number, and `find_map` is no plainer.
         for i in 0..self.list.count() {
-            if let Err(p) = self.take(i, &zeros[..self.n as usize]) {
+            let targets = self.list.targets(i);
+            if let Err(p) = self.take(i, &targets, &zeros[..self.n as usize]) {
                 return Some((i, p));
             }
         }

@@ -72,8 +72,9 @@ impl<'a, K: Kind> Code<'a, K> {
         requires { length word.now ≡ self.now.n }
         ensures { result ≡ is_codeword (code_lent K.ring self.now) word.now }
     {
-        let own = self.codeword(&word[..self.k]);
-        own[..self.n] == word[..]
+        let width = self.n - self.k;
+        let checks = self.check_symbols(&word[..self.k], width);
+        checks[..width] == word[self.k..]
     }
 
     // Whether the first check symbols show that a word is more than `limit` places from the codeword of its first k symbols.

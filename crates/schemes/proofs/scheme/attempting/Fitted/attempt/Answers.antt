@@ -4,7 +4,7 @@ use Rattle.codes.specs.Code.{Code, Permutation}
 use Rattle.codes.proofs.Found.{none-some}
 use Rattle.codes.proofs.Offending.{clash_none}
 use Rattle.schemes.specs.Lent.{code_lent}
-use Rattle.schemes.specs.Takes.{Takes}
+use Rattle.schemes.specs.Takes.{Takes, taken as taken_by}
 use Rattle.schemes.proofs.Attempts.{length_codeword, far_is, distance_is, candidate_is, candidate_passes, candidate_serves}
 use Rattle.schemes.proofs.scheme.attempting.Fitted.attempt.Goals as goal
 
@@ -18,7 +18,7 @@ pub returns-then-is_far : goal.returns-then-is_far
 returns-then-is_far g c =
     let C : Code = code_lent g.K.Kind.ring c.args.self.now.code in
     let σ = (g.L.Permutations.meaning c.args.self.now.list.list.now).target c.args.i in
-    let x = c.in-Ok.taken in
+    let x = taken_by c.targets-targets.result c.in-Ok.taken in
     let taken : Takes C.n σ c.args.v.now x = subst (λ n. Takes n σ c.args.v.now x) (sym c.args.self.now.same) c.in-Ok.ensures in
     λ s. omega (arith, c.is_far.ensures c.if-is_far.true, far_is C (omega arith) σ c.args.v.now x taken, s.2)
 
@@ -27,7 +27,7 @@ returns-then-d-self g c =
     let C : Code = code_lent g.K.Kind.ring c.args.self.now.code in
     let σ = (g.L.Permutations.meaning c.args.self.now.list.list.now).target c.args.i in
     let v = c.args.v.now in
-    let x = c.in-Ok.taken in
+    let x = taken_by c.targets-targets.result c.in-Ok.taken in
     let taken : Takes C.n σ v x = subst (λ n. Takes n σ v x) (sym c.args.self.now.same) c.in-Ok.ensures in
     let far = distance_is C (omega arith) σ v x taken c.codeword-codeword.result c.codeword-codeword.ensures c.distance-d.result c.distance-d.ensures.count in
     λ s. omega (arith, s.2)
@@ -37,7 +37,7 @@ bring_back-word-requires g c =
     let C : Code = code_lent g.K.Kind.ring c.args.self.now.code in
     let σ = (g.L.Permutations.meaning c.args.self.now.list.list.now).target c.args.i in
     let v = c.args.v.now in
-    let x = c.in-Ok.taken in
+    let x = taken_by c.targets-targets.result c.in-Ok.taken in
     let taken : Takes C.n σ v x = subst (λ n. Takes n σ v x) (sym c.args.self.now.same) c.in-Ok.ensures in
     let long = length_codeword C (omega arith) σ v x taken c.codeword-codeword.result c.codeword-codeword.ensures in
     record { few = omega arith; within = λ p h. (σ p, taken.goes p (omega arith), omega (arith, taken.permutes.0 p (omega arith))) }
@@ -47,7 +47,7 @@ returns-then-not-is_codeword g c =
     let C : Code = code_lent g.K.Kind.ring c.args.self.now.code in
     let σ = (g.L.Permutations.meaning c.args.self.now.list.list.now).target c.args.i in
     let v = c.args.v.now in
-    let x = c.in-Ok.taken in
+    let x = taken_by c.targets-targets.result c.in-Ok.taken in
     let taken : Takes C.n σ v x = subst (λ n. Takes n σ v x) (sym c.args.self.now.same) c.in-Ok.ensures in
     let is = candidate_is C (omega arith) σ v x taken c.codeword-codeword.result c.codeword-codeword.ensures c.bring_back-word.result (omega arith) c.bring_back-word.ensures in
     λ s. true≢false (sym (c.is_codeword.ensures ∙ candidate_passes C (omega arith) (g.met.K.Kind.rules c.args.self.now.code.kind.now) σ taken.permutes v c.requires.block _ is s.1) ∙ c.if-not-is_codeword.true)
@@ -57,7 +57,7 @@ returns g c =
     let C : Code = code_lent g.K.Kind.ring c.args.self.now.code in
     let σ = (g.L.Permutations.meaning c.args.self.now.list.list.now).target c.args.i in
     let v = c.args.v.now in
-    let x = c.in-Ok.taken in
+    let x = taken_by c.targets-targets.result c.in-Ok.taken in
     let taken : Takes C.n σ v x = subst (λ n. Takes n σ v x) (sym c.args.self.now.same) c.in-Ok.ensures in
     let is = candidate_is C (omega arith) σ v x taken c.codeword-codeword.result c.codeword-codeword.ensures c.bring_back-word.result (omega arith) c.bring_back-word.ensures in
     let far = distance_is C (omega arith) σ v x taken c.codeword-codeword.result c.codeword-codeword.ensures c.distance-d.result c.distance-d.ensures.count in

@@ -3,7 +3,7 @@ use Rattle.codes.specs.Code.{Code, codeword, unit, moved, is_codeword, Permutati
 use Rattle.codes.proofs.Found.{least-some, least-none, none-some}
 use Rattle.codes.proofs.Offending.{clash_none}
 use Rattle.schemes.specs.Lent.{code_lent}
-use Rattle.schemes.specs.Takes.{Takes}
+use Rattle.schemes.specs.Takes.{Takes, taken as taken_by}
 use Rattle.schemes.proofs.scheme.attempting.Fitted.unkept_unit.Goals as goal
 
 pub unreachable-requires : goal.unreachable-requires
@@ -16,7 +16,7 @@ pub returns-then-not-is_codeword : goal.returns-then-not-is_codeword
 returns-then-not-is_codeword g c =
     let C : Code = code_lent g.K.Kind.ring c.args.self.now.code in
     let σ = (g.L.Permutations.meaning c.args.self.now.list.list.now).target c.args.i in
-    let x = c.in-Ok.image in
+    let x = taken_by c.targets-targets.result c.in-Ok.image in
     let word = take C.n c.codeword-word.result in
     let taken : Takes C.n σ word x = subst (λ n. Takes n σ word x) (sym c.args.self.now.same) c.in-Ok.ensures in
     let is : take C.n x.word ≡ moved C.n σ (codeword C (unit C.k c.loop-j.j)) =
@@ -28,7 +28,7 @@ pub loop-j-preserved : goal.loop-j-preserved
 loop-j-preserved g c =
     let C : Code = code_lent g.K.Kind.ring c.args.self.now.code in
     let σ = (g.L.Permutations.meaning c.args.self.now.list.list.now).target c.args.i in
-    let x = c.in-Ok.image in
+    let x = taken_by c.targets-targets.result c.in-Ok.image in
     let word = take C.n c.codeword-word.result in
     let taken : Takes C.n σ word x = subst (λ n. Takes n σ word x) (sym c.args.self.now.same) c.in-Ok.ensures in
     let is : take C.n x.word ≡ moved C.n σ (codeword C (unit C.k c.loop-j.j)) =

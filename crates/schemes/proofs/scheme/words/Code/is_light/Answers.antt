@@ -1,10 +1,10 @@
-use Rattle.std.proofs.Common.{◌≡◌, ℕ, ◌+◌, ◌-◌, ◌<◌, ◌≤◌, List, [], ◌∷◌, leb, length, get_or, take, sym, ap, ◌∙◌, arith}
+use Rattle.std.proofs.Common.{◌≡◌, ℕ, ◌-◌, [], ◌∷◌, leb, length, take, sym, ap, ◌∙◌, arith}
 use Rattle.std.proofs.lemmas.List.{get_or-take, length-take-le}
-use Rattle.codes.specs.Code.{Code, check, weight}
-use Rattle.codes.proofs.Places.{distance-le, weight_agree}
+use Rattle.codes.specs.Code.{Code, weight}
+use Rattle.codes.proofs.Places.{distance-le}
 use Rattle.schemes.specs.Lent.{code_lent}
 use Rattle.schemes.proofs.Bounds.{gt_leb}
-use Rattle.schemes.proofs.Searching.{ended, heavier, weighed, u}
+use Rattle.schemes.proofs.Searching.{ended, heavier, weighed}
 use Rattle.schemes.proofs.scheme.words.Code.is_light.Goals as goal
 
 pub overflow_add-whole : goal.overflow_add-whole

@@ -1,4 +1,4 @@
-use Rattle.std.proofs.Common.{◌≡◌, ℕ, ◌+◌, ◌-◌, ◌<◌, ◌≤◌, List, [], ◌∷◌, ◌++◌, leb, sym, ◌∙◌, arith}
+use Rattle.std.proofs.Common.{◌-◌, [], ◌∷◌, ◌++◌, leb, sym, ◌∙◌, arith}
 use Rattle.codes.specs.Code.{Code, codeword, weight}
 use Rattle.codes.proofs.Found.{least-some, least-none}
 use Rattle.schemes.specs.Lent.{code_lent}
