@@ -8,6 +8,10 @@ use crate::fates::fate_of;
 use faults::Fault;
 use schemes::Tally;
 use std::alloc::{AllocError, Global};
+use std::fmt::Write;
+
+// The bytes of the longest number and fate.
+const HEAD: usize = 32;
 
 // A symbol as a digit from 0 to f.
 fn digit(symbol: u8) -> u8
@@ -43,7 +47,9 @@ pub(crate) fn put_line(
     ensures { OnOk result (text.new.items ≡ text.old.items ++ (decimal number ++ (fate block.now (answered answer) word.now ++ codes "\n"))) }
 {
     let (fate, symbols) = fate_of(answer, block, word);
-    let head = format!(in heap; "{number} {fate}")?;
+    // With room for the longest, since a text that grows as it is written asks for memory more than once.
+    let mut head = String::with_capacity(heap, HEAD)?;
+    write!(head, "{number} {fate}")?;
     text.extend_from_slice(head.as_bytes())?;
     put_symbols(text, symbols)?;
     text.extend_from_slice(b"\n")
