@@ -76,9 +76,9 @@ message_last q zero lead last h =
     ∙ add-mul-mod_self_left last q lead ∙ mod-eq_of_lt h)
 message_last q (suc k) lead last h =
     let front : (lead * q + last) / q ^ suc k ≡ lead / q ^ k =
-        ap (λ (y : ℕ). (lead * q + last) / y) (pow-suc q k ∙ mul_comm (q ^ k) q)
-        ∙ sym (div-div-eq-div-mul (lead * q + last) q (q ^ k))
-        ∙ ap (λ (y : ℕ). y / q ^ k) (div-mul-add lead q last h) in
+    ap (λ (y : ℕ). (lead * q + last) / y) (pow-suc q k ∙ mul_comm (q ^ k) q)
+    ∙ sym (div-div-eq-div-mul (lead * q + last) q (q ^ k))
+    ∙ ap (λ (y : ℕ). y / q ^ k) (div-mul-add lead q last h) in
     ap₂ (λ (y : ℕ) (ys : List ℕ). y % q ∷ ys) front (message_last q k lead last h)
 
 pub message_below : (q k x : ℕ) → 0 < q → Below q (message q k x)

@@ -91,8 +91,12 @@ distance_inner k zero v w x y left right = omega arith
 distance_inner k (suc m) v w x y left right =
     let shift : distance (k + suc m) v w ≡ distance (suc (k + m)) v w = ap (λ n. distance n v w) (let e : k + suc m ≡ suc (k + m) = omega arith in e) in
     omega (
-      arith, distance_inner k m v w x y (λ j h. left j (omega arith)) (λ j h. right j (omega arith)),
-      distance-suc m x y, distance-suc (k + m) v w, shift, ap₂ mark (left m (omega arith)) (right m (omega arith)),
+      arith,
+      distance_inner k m v w x y (λ j h. left j (omega arith)) (λ j h. right j (omega arith)),
+      distance-suc m x y,
+      distance-suc (k + m) v w,
+      shift,
+      ap₂ mark (left m (omega arith)) (right m (omega arith)),
     )
 
 -- the weight of a word is that of its two parts
@@ -104,7 +108,10 @@ weight_parts a b zero =
 weight_parts a b (suc m) =
     ap (λ (n : ℕ). weight n (a ++ b)) (let e : length a + suc m ≡ suc (length a + m) = omega arith in e)
     ∙ omega (
-      arith, distance-suc (length a + m) (a ++ b) [], distance-suc m b [], weight_parts a b m,
+      arith,
+      distance-suc (length a + m) (a ++ b) [],
+      distance-suc m b [],
+      weight_parts a b m,
       ap (λ x. mark x 0) (get_or-append_right a b (length a) (length a + m) 0 refl (omega arith)),
       ap (λ i. mark (get_or b i 0) 0) (let e : length a + m - length a ≡ m = omega arith in e),
     )

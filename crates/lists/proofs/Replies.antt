@@ -1,6 +1,6 @@
 -- Replies of a list, and targets that are asked for at once.
-use Rattle.std.proofs.Common.{◌≡◌, ℕ, ◌+◌, ◌*◌, ◌%◌, ◌<◌, ◌≤◌, min, cond, ltb, ◌≢◌, ◌⊎◌, List, ◌++◌, length, get_or, set, Some, None, sym, ap, ◌∙◌, ap₂, inl, inr, mul-add, arith, below_more, le-ltb, lt-ltb}
-use native.Mathlib.Nat.{add-mod}
+use Rattle.std.proofs.Common.{◌≡◌, ℕ, ◌+◌, ◌*◌, ◌%◌, ◌<◌, ◌≤◌, min, cond, ltb, ◌≢◌, ◌⊎◌, List, ◌++◌, length, get_or, set, Some, None, sym, ap, ◌∙◌, ap₂, inl, inr, mul-add, mod-lt, arith, below_more, le-ltb, lt-ltb}
+use native.Mathlib.Nat.{add-mod, add-mod-mod}
 use Rattle.std.proofs.lemmas.List.{get_or-set_same, get_or-set_other}
 use Rattle.std.proofs.Math.ListN.{get_or-append}
 use Rattle.std.proofs.lemmas.Bool.Decides.{nat_tests}
@@ -50,3 +50,9 @@ module _ (M : Meaning) (i : ℕ) where
 -- one multiple more of a power
 pub multiple_more : (power p n : ℕ) → ((power * p) % n + (power * 1) % n) % n ≡ (power * (p + 1)) % n
 multiple_more power p n = sym (add-mod (power * p) (power * 1) n) ∙ ap (λ x. x % n) (sym (mul-add power p 1))
+
+-- a position further by a turn that is reduced
+pub turned : (n s j p turn to : ℕ) → 0 < n → n ≤ 255 → turn ≡ (s * j) % n → to ≡ (p + turn) % n → to ≡ min ((p + s * j) % n) 255
+turned n s j p turn to pos short is e =
+    let low : (p + s * j) % n < n = mod-lt (p + s * j) pos in
+    e ∙ ap (λ x. (p + x) % n) is ∙ add-mod-mod p (s * j) n ∙ omega arith

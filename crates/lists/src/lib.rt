@@ -144,6 +144,15 @@ impl Shifts {
     {
         Shifts { n, step, number }
     }
+
+    // How far number j goes round.
+    fn turn(&self, j: u16) -> u8
+        requires { 0 < self.now.n }
+        ensures value { result ≡ (self.now.step * j) % self.now.n }
+        ensures within { result < self.now.n }
+    {
+        (self.step as u32 * j as u32 % self.n as u32) as u8
+    }
 }
 
 impl Permutations for Shifts {
@@ -163,8 +172,21 @@ impl Permutations for Shifts {
         if j >= self.count() || p >= self.n {
             return None;
         }
-        let turn = (self.step as u32 * j as u32 % self.n as u32) as u8;
-        Some(around(p, turn, self.n))
+        Some(around(p, self.turn(j), self.n))
+    }
+
+    // All positions go as far, so the turn is computed once.
+    fn targets(&self, j: u16) -> Targets {
+        if j >= self.count() || self.n == 0 {
+            return Targets::none();
+        }
+        let mut places = [0u8; 64];
+        let turn = self.turn(j);
+        let told = self.n.min(64);
+        for (p, place) in places[..told as usize].iter_mut().enumerate() {
+            *place = around(p as u8, turn, self.n);
+        }
+        Targets { n: told, places }
     }
 }
 

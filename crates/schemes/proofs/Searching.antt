@@ -44,7 +44,9 @@ module _ (C : Code) (order : C.k ≤ C.n) (head : List ℕ) (last : ℕ) (long :
   pub heavier : (few : ℕ) (checks : List ℕ) → few ≤ C.n - C.k → ((j : ℕ) → j < few → get_or checks j 0 ≡ check C u j) → whole + weight few checks ≤ weight C.n (codeword C u)
   heavier few checks low at =
       omega (
-        arith, parts, distance-mono few (C.n - C.k) (map (check C u) (range_with_len 0 (C.n - C.k))) [] low,
+        arith,
+        parts,
+        distance-mono few (C.n - C.k) (map (check C u) (range_with_len 0 (C.n - C.k))) [] low,
         weight_agree few checks (map (check C u) (range_with_len 0 (C.n - C.k))) (λ j h. at j h ∙ sym (get_or-map-range_with_len (check C u) 0 (C.n - C.k) j j 0 (omega arith) (omega arith))),
       )
 
@@ -52,7 +54,8 @@ module _ (C : Code) (order : C.k ≤ C.n) (head : List ℕ) (last : ℕ) (long :
   pub weighed : (checks : List ℕ) → ((j : ℕ) → j < C.n - C.k → get_or checks j 0 ≡ check C u j) → whole + weight (C.n - C.k) checks ≡ weight C.n (codeword C u)
   weighed checks at =
       omega (
-        arith, parts,
+        arith,
+        parts,
         weight_agree (C.n - C.k) checks (map (check C u) (range_with_len 0 (C.n - C.k))) (λ j h. at j h ∙ sym (get_or-map-range_with_len (check C u) 0 (C.n - C.k) j j 0 h (omega arith))),
       )
 
@@ -74,7 +77,7 @@ abbrev pub by_last : Code → ℕ → List ℕ → ℕ → Bool
 by_last C limit head last = leb (weight C.n (codeword C (head ++ (last ∷ [])))) limit
 
 module _ (C : Code) (limit lead first : ℕ) (head : List ℕ) (some : 0 < C.k) (low : 2 ≤ C.ring.q)
-  (is : head ≡ message C.ring.q (C.k - 1) lead) (few : first ≤ 1) (zero-from : lead ≡ 0 → first ≡ 1) (from-zero : first ≡ 1 → lead ≡ 0) where
+    (is : head ≡ message C.ring.q (C.k - 1) lead) (few : first ≤ 1) (zero-from : lead ≡ 0 → first ≡ 1) (from-zero : first ≡ 1 → lead ≡ 0) where
   same : (last : ℕ) → last < C.ring.q → by_last C limit head last ≡ by_number C limit (lead * C.ring.q + last)
   same last h =
       ap (λ m. leb (weight C.n (codeword C m)) limit)

@@ -57,7 +57,7 @@ impl<'a, K: Kind> Code<'a, K> {
     fn light_end(&self, head: &[u8], from: u8, limit: usize) -> Option<u8>
         requires head { length head.now + 1 ≡ self.now.k }
         requires few { limit ≤ 10 }
-        requires from { from ≤ 1 }
+        requires from { from ≤ 2 }
         ensures { result ≡ least (λ last. nat_le (weight self.now.n (codeword (code_lent K.ring self.now) (head.now ++ (last ∷ [])))) limit) from ((K.ring self.now.kind.now).q - from) }
     {
         let own = weight(head);

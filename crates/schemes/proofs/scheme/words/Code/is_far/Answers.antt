@@ -19,7 +19,7 @@ returns g c =
     let y = take few c.check_symbols-checks.result in
     let wide : length x ≡ few = length-take-le (C.k + few - C.k) (drop C.k w) (omega (arith, length-drop C.k w)) ∙ omega arith in
     let inner = distance_inner C.k few w (codeword C u) x y
-        (λ j h. get_or-take (C.k + few - C.k) (drop C.k w) j 0 (omega arith) ∙ get_or-drop C.k w j 0)
-        (λ j h. get_or-take few c.check_symbols-checks.result j 0 h ∙ c.check_symbols-checks.ensures j h ∙ begun_whole C u j long ∙ sym (codeword-check C u long j (omega arith))) in
+    (λ j h. get_or-take (C.k + few - C.k) (drop C.k w) j 0 (omega arith) ∙ get_or-drop C.k w j 0)
+    (λ j h. get_or-take few c.check_symbols-checks.result j 0 h ∙ c.check_symbols-checks.ensures j h ∙ begun_whole C u j long ∙ sym (codeword-check C u long j (omega arith))) in
     let counted : c.distance.result ≡ distance few x y = c.distance.ensures.count ∙ ap (λ (m : ℕ). distance m x y) wide in
     λ more. omega (arith, ltb_lt c.args.limit c.distance.result more, counted, inner, distance-mono (C.k + few) C.n w (codeword C u) (omega arith))

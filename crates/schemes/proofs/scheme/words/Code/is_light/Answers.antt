@@ -24,10 +24,13 @@ returns-then-whole-weight g c =
     let few = c.min-few.result in
     let firsts = c.add_row.new.sums in
     let at = ended C (omega arith) c.args.head.now c.args.last c.requires.head few c.args.sums.now firsts c.args.self.now.few (omega arith) c.args.self.now.size c.told-sums
-        (λ j h. c.requires.sums j (omega arith)) c.add_row.ensures in
+    (λ j h. c.requires.sums j (omega arith)) c.add_row.ensures in
     let counted : c.weight-2.result ≡ weight few (take few firsts) = c.weight-2.ensures ∙ ap (λ (m : ℕ). weight m (take few firsts)) (length-take-le few firsts (omega arith)) in
     sym (gt_leb _ _ (omega (
-      arith, c.requires.own, c.weight.ensures, counted,
+      arith,
+      c.requires.own,
+      c.weight.ensures,
+      counted,
       heavier C (omega arith) c.args.head.now c.args.last c.requires.head few (take few firsts) (omega arith) (λ j h. get_or-take few firsts j 0 h ∙ at j h),
     )))
 
@@ -42,10 +45,13 @@ returns g c =
     let width = C.n - C.k in
     let checks = c.add_row-2.new.sums in
     let at = ended C (omega arith) c.args.head.now c.args.last c.requires.head width c.args.sums.now checks c.args.self.now.few (omega arith) c.args.self.now.size c.told-sums
-        (λ j h. c.requires.sums j h) c.add_row-2.ensures in
+    (λ j h. c.requires.sums j h) c.add_row-2.ensures in
     let counted : c.weight-3.result ≡ weight width (take width checks) = c.weight-3.ensures ∙ ap (λ (m : ℕ). weight m (take width checks)) (length-take-le width checks (omega arith)) in
     ap (λ (x : ℕ). leb x c.args.limit)
     (omega (
-      arith, c.requires.own, c.weight.ensures, counted,
+      arith,
+      c.requires.own,
+      c.weight.ensures,
+      counted,
       weighed C (omega arith) c.args.head.now c.args.last c.requires.head (take width checks) (λ j h. get_or-take width checks j 0 h ∙ at j h),
     ))
